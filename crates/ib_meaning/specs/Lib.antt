@@ -1,0 +1,4 @@
+pub mod Agreement
+pub mod FaultKind
+pub mod Machine
+pub mod Place

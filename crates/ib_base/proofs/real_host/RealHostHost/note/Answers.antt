@@ -1,0 +1,5 @@
+use Rattle.ib_base.proofs.Parts.{on_err, silent_notes}
+use Rattle.ib_base.proofs.real_host.RealHostHost.note.Goals as goal
+
+pub returns-clause-err : goal.returns-clause-err
+returns-clause-err g c = on_err c.counted.result (silent_notes c.args.bytes.now)

@@ -1,0 +1,10 @@
+//! The memory of a program: 2^20 bytes, with loads and stores of one, four and eight of them.
+#![tactic(auto)]
+
+mod memory;
+mod number;
+mod parts;
+#[cfg(test)]
+mod tests;
+
+pub use memory::Memory;

@@ -1,0 +1,10 @@
+//! The tables of the machines that the compiler makes code for.
+#![tactic(auto)]
+
+mod machine;
+mod machines;
+#[cfg(test)]
+mod tests;
+
+pub use machine::{Machine, OpClass};
+pub use machines::{Eight, Four, Narrow};

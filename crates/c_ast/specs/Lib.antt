@@ -1,0 +1,4 @@
+pub mod Keywords
+pub mod Marks
+pub mod Bytes
+pub mod Literals

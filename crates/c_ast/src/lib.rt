@@ -1,0 +1,10 @@
+//! The tokens of a source, and the trees that they spell.
+#![tactic(auto)]
+
+mod keyword;
+mod mark;
+mod token;
+
+pub use keyword::Keyword;
+pub use mark::Mark;
+pub use token::{Tok, Token};

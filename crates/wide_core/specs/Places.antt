@@ -1,0 +1,14 @@
+-- Registers and slots, and functions from them.
+use Rattle.std.specs.Prelude.{Bool, false, ◌==◌, if◌then◌else◌}
+use Rattle.wide_core.specs.declared.code.Loc.{Loc}
+use Rattle.wide_core.specs.declared.code.Loc.TheVariants.{Reg, Slot}
+
+abbrev pub same_loc : Loc → Loc → Bool
+same_loc (Reg a) (Reg b) = a == b
+same_loc (Reg a) (Slot b) = false
+same_loc (Slot a) (Reg b) = false
+same_loc (Slot a) (Slot b) = a == b
+
+-- f, but for v at the place
+abbrev pub put : {A : Type 0} → Loc → A → (Loc → A) → Loc → A
+put loc v f other = if same_loc other loc then v else f other

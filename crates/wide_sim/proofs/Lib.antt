@@ -1,0 +1,11 @@
+pub mod Cases
+pub mod Effects
+pub mod Homes
+pub mod Load
+pub mod Places
+pub mod Runs
+pub mod Simulated
+pub mod Steps
+pub mod Widths
+pub mod Words
+pub mod Worlds

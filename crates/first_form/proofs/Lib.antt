@@ -1,0 +1,11 @@
+pub mod Lists
+pub mod Numbers
+pub mod KindLemmas
+pub mod StepLemmas
+pub mod Forward
+pub mod Backward
+pub mod Longest
+pub mod Cutting
+pub mod Sound
+pub mod ScanLemmas
+pub mod Unique

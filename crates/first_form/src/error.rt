@@ -1,0 +1,30 @@
+use std::alloc::{AllocError, AllocFailed};
+
+/// Why no program was read.
+#[derive(Clone, Copy, PartialEq, Eq, Debug)]
+pub enum ReadErr {
+    NotFirstForm,
+    NoMemory,
+}
+
+impl From<AllocError> for ReadErr {
+    ghost use Rattle.first_form.specs.declared.error.ReadErr.TheVariants.{NoMemory};
+    ghost use Rattle.std.specs.Prelude.{◌≡◌};
+
+    ghost from_gives = { λ e r. r ≡ NoMemory };
+
+    fn from(_e: AllocError) -> ReadErr {
+        ReadErr::NoMemory
+    }
+}
+
+impl<T: Drop> From<AllocFailed<T>> for ReadErr {
+    ghost use Rattle.first_form.specs.declared.error.ReadErr.TheVariants.{NoMemory};
+    ghost use Rattle.std.specs.Prelude.{◌≡◌};
+
+    ghost from_gives = { λ e r. r ≡ NoMemory };
+
+    fn from(_e: AllocFailed<T>) -> ReadErr {
+        ReadErr::NoMemory
+    }
+}

@@ -1,0 +1,162 @@
+use crate::{Factor, Program, ReadErr, Stmt, SumOp, TermOp, read};
+use ib_meaning::Place;
+use std::alloc::{AllocError, Global};
+use std::test::Fail;
+
+fn outcome(alloc: Global, source: &[u8]) -> Result<Program, ReadErr> {
+    if 1048576 < source.len() {
+        return Err(ReadErr::NoMemory);
+    }
+    read(alloc, source)
+}
+
+fn is_refused(alloc: Global, source: &[u8]) -> bool {
+    match outcome(alloc, source) {
+        Err(e) => e == ReadErr::NotFirstForm,
+        Ok(_) => false,
+    }
+}
+
+fn counts(alloc: Global, source: &[u8]) -> Option<(usize, usize)> {
+    match outcome(alloc, source) {
+        Ok(program) => Some((program.names.len(), program.body.len())),
+        Err(_) => None,
+    }
+}
+
+#[test]
+fn refuses_what_is_no_first_form(rt: HostRuntime) {
+    for source in [
+        "",
+        "int main(void)",
+        "int main(void){",
+        "int main(){}",
+        "int main(void){};",
+        "int main(void){int a;int a;}",
+        "int main(void){a=1;}",
+        "int main(void){int x=x;}",
+        "int main(void){int for;}",
+        "int main(void){int register;}",
+        "int main(void){int putint;}",
+        "int main(void){int main;}",
+        "int main(void){int _Bool;}",
+        "int main(void){return 2147483648;}",
+        "int main(void){return 08;}",
+        "int main(void){return 1L;}",
+        "int main(void){return 0x1;}",
+        "int main(void){return 1--2;}",
+        "int main(void){return - -2;}",
+        "int main(void){return +2;}",
+        "int main(void){return (2);}",
+        "int main(void){return;}",
+        "int main(void){int a;return -a;}",
+        "int main(void){int a;a+=1;}",
+        "int main(void){int a;a==1;}",
+        "int main(void){int a,b;}",
+        "int main(void){putint(1)}",
+        "int main(void){} // end",
+        "int main(void){/* none */}",
+        "int main(void){return 6//2;}",
+        "#include <stdio.h>\nint main(void){}",
+        "intmain(void){}",
+        "int main(void){return 1;\u{b7}}",
+    ] {
+        assert!(rt; is_refused(rt.alloc(), source.as_bytes()), "{source:?}");
+    }
+}
+
+#[test]
+fn reads_the_first_form(rt: HostRuntime) {
+    for (source, names, stmts) in [
+        ("int main(void){}", 0, 0),
+        (" int\tmain ( void )\r\n{\x0b\x0c}\n", 0, 0),
+        ("int main(void){return 2147483647;}", 0, 1),
+        ("int main(void){return 1 - -2;}", 0, 1),
+        (
+            "int main(void){int int_=-0;int _a;int Int;_a=int_*Int;}",
+            3,
+            4,
+        ),
+        (
+            "int main(void){return 1;int a=3;putint(a/a*a-a+a);a=a;}",
+            1,
+            4,
+        ),
+        ("int main(void){int a;int b=a;int c=b*-1;}", 3, 3),
+    ] {
+        let found = counts(rt.alloc(), source.as_bytes());
+        assert!(rt; found == Some((names, stmts)), "{source:?}");
+    }
+}
+
+#[test]
+fn keeps_places_and_operators(rt: HostRuntime) -> Result<(), Fail> {
+    let source = b"int main(void){int x=7;\n\tputint(x*2-3/-4);}";
+    let program = outcome(rt.alloc(), source)?;
+    let [first, second] = program.body.as_slice() else {
+        panic!(rt; "two statements");
+    };
+    match first {
+        Stmt::Declare { place, value } => {
+            assert_eq!(rt; *place, Place { line: 1, col: 16 });
+            assert!(rt; value.is_some());
+        }
+        _ => panic!(rt; "a declaration"),
+    }
+    let Stmt::Print { place, value } = second else {
+        panic!(rt; "a call");
+    };
+    assert_eq!(rt; *place, Place { line: 2, col: 2 });
+    assert!(rt; matches!(&value.first.first, Factor::Variable(0)));
+    let [multiplier] = value.first.rest.as_slice() else {
+        panic!(rt; "one multiplier");
+    };
+    assert!(rt; matches!(&multiplier.op, TermOp::Times));
+    assert!(rt; matches!(&multiplier.factor, Factor::Number(2)));
+    let [addend] = value.rest.as_slice() else {
+        panic!(rt; "one addend");
+    };
+    assert!(rt; matches!(&addend.op, SumOp::Minus));
+    assert!(rt; matches!(&addend.term.first, Factor::Number(3)));
+    let [divisor] = addend.term.rest.as_slice() else {
+        panic!(rt; "one divisor");
+    };
+    assert!(rt; matches!(&divisor.op, TermOp::Over));
+    assert!(rt; matches!(&divisor.factor, Factor::Negative(4)));
+    Ok(())
+}
+
+/// `first`, then 16,381 times `a=1;`, and `}`.
+fn long_source(alloc: Global, first: &[u8]) -> Result<Vec<u8>, AllocError> {
+    let mut source = Vec::from_slice(alloc, first)?;
+    for _ in 0..16381 {
+        source.extend_from_slice(b"a=1;")?;
+    }
+    source.extend_from_slice(b"}")?;
+    Ok(source)
+}
+
+#[test]
+fn takes_65536_words(rt: HostRuntime) -> Result<(), Fail> {
+    let fits = long_source(rt.alloc(), b"int main(void){int a=1;")?;
+    assert!(rt; counts(rt.alloc(), fits.as_slice()) == Some((1, 16382)));
+    let too_long = long_source(rt.alloc(), b"int main(void){int a=-1;")?;
+    assert!(rt; is_refused(rt.alloc(), too_long.as_slice()));
+    Ok(())
+}
+
+/// Each name is looked up once in a table of all, and not in a list.
+#[test]
+fn takes_many_names(rt: HostRuntime) -> Result<(), Fail> {
+    let mut source = Vec::from_slice(rt.alloc(), b"int main(void){")?;
+    for a in b'a'..=b'z' {
+        for b in b'a'..=b'z' {
+            for c in b'a'..=b'z' {
+                source.extend_from_slice(&[b'i', b'n', b't', b' ', b'x', a, b, c, b';'])?;
+            }
+        }
+    }
+    source.extend_from_slice(b"}")?;
+    assert!(rt; counts(rt.alloc(), source.as_slice()) == Some((17576, 17576)));
+    Ok(())
+}

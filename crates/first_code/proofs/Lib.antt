@@ -1,0 +1,14 @@
+pub mod Agree
+pub mod Bodies
+pub mod Fits
+pub mod Homes
+pub mod Ints
+pub mod Progress
+pub mod Operations
+pub mod Parts
+pub mod Products
+pub mod Shows
+pub mod Sizes
+pub mod Statements
+pub mod Sums
+pub mod Totals

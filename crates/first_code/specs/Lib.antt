@@ -1,0 +1,4 @@
+pub mod Code
+pub mod Made
+pub mod Operand
+pub mod Plain

@@ -1,0 +1,10 @@
+//! Wide code for the first form, in source order, and the proof that it means what its program means.
+#![tactic(auto)]
+
+mod maker;
+mod making;
+mod operand;
+#[cfg(test)]
+mod tests;
+
+pub use making::make;

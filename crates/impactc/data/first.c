@@ -1,0 +1,1 @@
+int main(void){putint(1+2);return 0;}

@@ -1,0 +1,4 @@
+pub mod Noted
+pub mod Ran
+pub mod Topped
+pub mod Working

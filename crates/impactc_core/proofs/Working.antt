@@ -1,0 +1,119 @@
+-- The work of `run F`, put together.
+use Rattle.std.proofs.Common.{◌≡◌, inl, inr, ℕ, List, Result, Ok, Err, IfOk, IfErr, Some, refl, sym, ap, ◌∙◌, subst}
+use Rattle.ib_meaning.specs.Agreement.{HasOver, IsPrefix, out_of}
+use Rattle.ib_meaning.proofs.Agreement.{same_ends, prefix_refl}
+use Rattle.ib_base.specs.World.{World}
+use Rattle.first_form.specs.declared.program.Program.{Program}
+use Rattle.first_form.specs.FirstForm.{IsFirstForm}
+use Rattle.first_form.specs.Meaning.{source_meaning}
+use Rattle.first_code.specs.Made.{IsShort}
+use Rattle.impactc_core.specs.declared.core_err.CoreErr.{CoreErr}
+use Rattle.impactc_core.specs.declared.core_err.CoreErr.TheVariants.{Usage as BadWords, Source, HostFault as Host, NoMemory as Memory, TooLarge as Large}
+use Rattle.impactc_core.specs.declared.core_err.Limit.TheVariants.{Source as SourceBytes}
+use Rattle.impactc_core.specs.declared.core_err.SourceFault.TheVariants.{NotInThisVersion}
+use Rattle.impactc_core.specs.declared.success.Success.{Success}
+use Rattle.impactc_core.specs.declared.success.Success.TheVariants.{Ended, Faulted}
+use Rattle.impactc_core.specs.declared.words.Command.TheVariants.{Run}
+use Rattle.impactc_core.specs.Answers.{IsSource, HasRun, RunAnswer, MayChange, Works}
+use Rattle.impactc_core.specs.Notes.{status_of, note_of, refusal_note}
+use Rattle.impactc_core.specs.Runs.{ForInput, PrintsPartOf, finish_of}
+use Rattle.impactc_core.specs.Work.{IsReadErr, IsBreak, RunsProgram, RunsSource, RefusesSource}
+
+pub short_program : (bytes : List ℕ) (program : Program) → IsFirstForm bytes program → IsShort program
+short_program bytes program form = record { words = form.words; few = form.few; spelled = form.spelled }
+
+pub runs_source : (bytes : List ℕ) (program : Program) (success : Success) (old new : World) → IsFirstForm bytes program → RunsProgram program success old new → RunsSource bytes success old new
+runs_source bytes program success old new form runs = record { program = program; form = form; runs = runs }
+
+-- a run that broke off
+pub refuses_broken : (file bytes : List ℕ) (program : Program) (refusal : CoreErr) (old new : World) → IsFirstForm bytes program → IsBreak refusal → PrintsPartOf (source_meaning program) old new → RefusesSource file bytes refusal old new
+refuses_broken file bytes program BadWords old new form is part = absurd is
+refuses_broken file bytes program (Source name place fault) old new form is part = absurd is
+refuses_broken file bytes program Host old new form is part = (program, form, part)
+refuses_broken file bytes program Memory old new form is part = inr (program, form, part)
+refuses_broken file bytes program (Large limit) old new form is part = absurd is
+
+-- where a code is over, its program is, alike
+source_ends : (program : Program) (success : Success) (old new : World) → (runs : RunsProgram program success old new) → ForInput old new (λ input left. HasOver (source_meaning program) input (finish_of success) runs.runs.out left)
+source_ends program success old new runs left told =
+    let at = runs.runs.from left told in
+    (at.0, at.1, (same_ends runs.agrees at.0 (finish_of success) runs.runs.out left).1 (_, at.2))
+
+prints_all : (program : Program) (success : Success) (old new : World) → RunsProgram program success old new → PrintsPartOf (source_meaning program) old new
+prints_all program success old new runs = record {
+  out = runs.runs.out;
+  world = runs.runs.world;
+  begins = λ left told.
+      let at = source_ends program success old new runs left told in
+      (at.0, at.1, (at.2.0, subst (λ (report : _). IsPrefix runs.runs.out (out_of report)) (sym at.2.1) (prefix_refl runs.runs.out)));
+}
+
+has_run : (file bytes : List ℕ) (success : Success) (old new : World) → IsSource file old bytes → RunsSource bytes success old new → HasRun file success old new (note_of (Ok success))
+has_run file bytes success old new source ran = record {
+  content = bytes;
+  program = ran.program;
+  code = ran.runs.code;
+  source = source;
+  form = ran.form;
+  plain = ran.runs.plain;
+  agrees = ran.runs.agrees;
+  some = ran.runs.some;
+  runs = ran.runs.runs;
+  source_ends = source_ends ran.program success old new ran.runs;
+  says = refl;
+}
+
+run_answer : (file bytes : List ℕ) (success : Success) (old new : World) → IsSource file old bytes → RunsSource bytes success old new → RunAnswer file (status_of (Ok success)) old new (note_of (Ok success))
+run_answer file bytes (Ended result cycles) old new source ran = (result, cycles, has_run file bytes (Ended result cycles) old new source ran)
+run_answer file bytes (Faulted place kind cycles) old new source ran = (place, kind, cycles, has_run file bytes (Faulted place kind cycles) old new source ran)
+
+works_ran : (file bytes : List ℕ) (success : Success) (old new : World) → IsSource file old bytes → RunsSource bytes success old new → Works (RunAnswer file) (MayChange (Some (Run file))) old new (status_of (Ok success)) (note_of (Ok success))
+works_ran file bytes success old new source ran = record {
+  may = inr (record { content = bytes; program = ran.program; source = source; form = ran.form; prints = prints_all ran.program success old new ran.runs });
+  answers = λ plain. run_answer file bytes success old new source ran;
+}
+
+works_refused : (file bytes : List ℕ) (refusal : CoreErr) (old new : World) → IsSource file old bytes → RefusesSource file bytes refusal old new → Works (RunAnswer file) (MayChange (Some (Run file))) old new (status_of (Err refusal)) (note_of (Err refusal))
+works_refused file bytes BadWords old new source is = absurd is
+works_refused file bytes (Source name place NotInThisVersion) old new source is = record {
+  may = inl is.3;
+  answers = λ plain. record {
+    content = bytes;
+    source = source;
+    no_program = is.2;
+    same = is.3;
+    says = ap (λ (f : List ℕ). refusal_note (Source f place NotInThisVersion)) is.0 ∙ ap (λ (p : _). refusal_note (Source file p NotInThisVersion)) is.1;
+  };
+}
+works_refused file bytes Host old new source is = record {
+  may = inr (record { content = bytes; program = is.0; source = source; form = is.1; prints = is.2 });
+  answers = λ plain. absurd plain;
+}
+works_refused file bytes Memory old new source (inl same) = record { may = inl same; answers = λ plain. absurd plain }
+works_refused file bytes Memory old new source (inr is) = record {
+  may = inr (record { content = bytes; program = is.0; source = source; form = is.1; prints = is.2 });
+  answers = λ plain. absurd plain;
+}
+works_refused file bytes (Large limit) old new source is = absurd is
+
+works_either : (file bytes : List ℕ) (result : Result Success CoreErr) (old new : World) → IsSource file old bytes → IfOk result (λ success. RunsSource bytes success old new) → IfErr result (λ refusal. RefusesSource file bytes refusal old new) → Works (RunAnswer file) (MayChange (Some (Run file))) old new (status_of result) (note_of result)
+works_either file bytes (Ok success) old new source ran refused = works_ran file bytes success old new source ran
+works_either file bytes (Err refusal) old new source ran refused = works_refused file bytes refusal old new source refused
+
+-- a source that was read, and nothing changed by that
+pub works_source : (file bytes : List ℕ) (result : Result Success CoreErr) (old mid new : World) → IsSource file old bytes → mid ≡ old → IfOk result (λ success. RunsSource bytes success mid new) → IfErr result (λ refusal. RefusesSource file bytes refusal mid new) → Works (RunAnswer file) (MayChange (Some (Run file))) old new (status_of result) (note_of result)
+works_source file bytes result old mid new source same ran refused =
+    works_either file bytes result old new source
+    (subst (λ (w : World). IfOk result (λ success. RunsSource bytes success w new)) same ran)
+    (subst (λ (w : World). IfErr result (λ refusal. RefusesSource file bytes refusal w new)) same refused)
+
+-- a source that was not read
+pub works_unread : (file : List ℕ) (refusal : CoreErr) (old new : World) → IsReadErr file old refusal → new ≡ old → Works (RunAnswer file) (MayChange (Some (Run file))) old new (status_of (Err refusal)) (note_of (Err refusal))
+works_unread file BadWords old new is same = absurd is
+works_unread file (Source name place fault) old new is same = absurd is
+works_unread file Host old new is same = record { may = inl same; answers = λ plain. absurd plain }
+works_unread file Memory old new is same = record { may = inl same; answers = λ plain. absurd plain }
+works_unread file (Large SourceBytes) old new is same = record {
+  may = inl same;
+  answers = λ plain. record { content = is.1.content; there = is.1.there; large = is.1.large; same = same; says = refl };
+}

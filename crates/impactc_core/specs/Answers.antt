@@ -1,0 +1,145 @@
+-- The answers of the commands, each with its cause.
+use Rattle.std.specs.Prelude.{◌≡◌, ◌≤◌, ◌<◌, ◌⊎◌, ⊤, ℕ, ℤ, List, length, Option, Some, None, IsSomeAnd}
+use Rattle.std.specs.FinMap.{get}
+use Rattle.ib_meaning.specs.declared.fault.FaultKind.{FaultKind}
+use Rattle.ib_meaning.specs.declared.place.Place.{Place}
+use Rattle.ib_meaning.specs.Agreement.{Agrees, HasOver}
+use Rattle.ib_base.specs.Cause.{Rose}
+use Rattle.ib_base.specs.World.{World, HasFile, LacksFile, Begins, noted}
+use Rattle.wide_core.specs.declared.code.RawCode.{RawCode}
+use Rattle.wide_core.specs.Meaning.{wide_meaning}
+use Rattle.first_form.specs.declared.program.Program.{Program}
+use Rattle.first_form.specs.FirstForm.{IsFirstForm}
+use Rattle.first_form.specs.Meaning.{source_meaning}
+use Rattle.first_code.specs.Plain.{IsPlain as IsPlainCode}
+use Rattle.impactc_core.specs.declared.core_err.Limit.TheVariants.{Source as SourceBytes}
+use Rattle.impactc_core.specs.declared.core_err.SourceFault.TheVariants.{NotInThisVersion}
+use Rattle.impactc_core.specs.declared.core_err.CoreErr.TheVariants.{Usage as BadWords, Source, HostFault as Host, NoMemory as Memory, TooLarge as Large}
+use Rattle.impactc_core.specs.declared.status.Status.{Status}
+use Rattle.impactc_core.specs.declared.status.Status.TheVariants.{Done, Usage, SourceRefused, HostFault, NoMemory, TooLarge, ProgramFault}
+use Rattle.impactc_core.specs.declared.success.Success.{Success}
+use Rattle.impactc_core.specs.declared.success.Success.TheVariants.{Ended, Faulted}
+use Rattle.impactc_core.specs.declared.words.Command.{Command}
+use Rattle.impactc_core.specs.declared.words.Command.TheVariants.{Run}
+use Rattle.impactc_core.specs.Notes.{success_note, refusal_note}
+use Rattle.wide_sim.specs.Simulated.{Finishes}
+use Rattle.impactc_core.specs.Runs.{ForInput, PrintsPartOf, finish_of, cycles_of}
+
+-- any status but those of a failing host and of want of memory
+abbrev pub IsPlain : Status → Type 0
+IsPlain HostFault = ⊥
+IsPlain NoMemory = ⊥
+IsPlain status = ⊤
+
+-- the file is there, and within the limit of 1,048,576 bytes
+pub record IsSource (file : List ℕ) (w : World) (content : List ℕ) : Type 0 where
+  pub there : HasFile w file content
+  pub fits : length content ≤ 1048576
+
+-- ---- `run F`
+
+-- the file is past the limit; nothing is printed, and the input is left
+pub record IsTooLarge (file : List ℕ) (old new : World) (note : List ℕ) : Type 0 where
+  pub content : List ℕ
+  pub there : HasFile old file content
+  pub large : 1048576 < length content
+  pub same : new ≡ old
+  pub says : note ≡ refusal_note (Large SourceBytes)
+
+-- the file is in no form that this version compiles; nothing is printed, and the input is left
+pub record IsRefused (file : List ℕ) (old new : World) (note : List ℕ) : Type 0 where
+  pub content : List ℕ
+  pub source : IsSource file old content
+  pub no_program : (program : Program) → IsFirstForm content program → ⊥
+  pub same : new ≡ old
+  pub says : note ≡ refusal_note (Source file (record { line = 1; col = 1 }) NotInThisVersion)
+
+-- the file's program was run to its end: by a code that agrees with it, within 100,000,000 cycles
+pub record HasRun (file : List ℕ) (success : Success) (old new : World) (note : List ℕ) : Type 0 where
+  pub content : List ℕ
+  pub program : Program
+  pub code : RawCode
+  pub source : IsSource file old content
+  pub form : IsFirstForm content program
+  pub plain : IsPlainCode code
+  pub agrees : Agrees (source_meaning program) (wide_meaning code)
+  pub some : 1 ≤ cycles_of success
+  pub runs : Finishes (wide_meaning code) (finish_of success) (cycles_of success) 100000000 old new
+  pub source_ends : ForInput old new (λ input left. HasOver (source_meaning program) input (finish_of success) runs.out left)
+  pub says : note ≡ success_note success
+
+-- what `run F` answers, by its status, by the worlds before and behind its work, and by its note
+abbrev pub RunAnswer : List ℕ → Status → World → World → List ℕ → Type 0
+RunAnswer file Done old new note = (result : ℤ) × (cycles : ℕ) × HasRun file (Ended result cycles) old new note
+RunAnswer file ProgramFault old new note = (place : Place) × (kind : FaultKind) × (cycles : ℕ) × HasRun file (Faulted place kind cycles) old new note
+RunAnswer file SourceRefused old new note = IsRefused file old new note
+RunAnswer file TooLarge old new note = IsTooLarge file old new note
+RunAnswer file status old new note = ⊥
+
+-- a beginning of an output of the file's program was printed
+pub record HasRunInPart (file : List ℕ) (old new : World) : Type 0 where
+  pub content : List ℕ
+  pub program : Program
+  pub source : IsSource file old content
+  pub form : IsFirstForm content program
+  pub prints : PrintsPartOf (source_meaning program) old new
+
+-- ---- every command
+
+-- what words that ask for nothing answer
+abbrev pub UsageAnswer : Status → World → World → List ℕ → Type 0
+UsageAnswer Usage old new note = (new ≡ old) × (note ≡ refusal_note BadWords)
+UsageAnswer status old new note = ⊥
+
+-- what a command answers
+abbrev pub AnswerOf : Option Command → Status → World → World → List ℕ → Type 0
+AnswerOf None = UsageAnswer
+AnswerOf (Some (Run file)) = RunAnswer file
+
+-- what a command may change beside its note, whatever it answers
+abbrev pub MayChange : Option Command → World → World → Type 0
+MayChange None old new = new ≡ old
+MayChange (Some (Run file)) old new = (new ≡ old) ⊎ HasRunInPart file old new
+
+-- the file that a command reads is not there
+abbrev pub LacksInput : Option Command → World → Type 0
+LacksInput None w = ⊥
+LacksInput (Some (Run file)) w = LacksFile w file
+
+-- the work of a command, before its note
+pub record Works (answer : Status → World → World → List ℕ → Type 0) (may_change : World → World → Type 0) (old new : World) (status : Status) (note : List ℕ) : Type 0 where
+  pub may : may_change old new
+  pub answers : IsPlain status → answer status old new note
+
+-- the note of some answer
+abbrev pub IsAnswersNote : (Status → World → World → List ℕ → Type 0) → World → World → List ℕ → Type 0
+IsAnswersNote answer old new note = (status : Status) × IsPlain status × answer status old new note
+
+-- The text of which the note is the whole or a beginning. With a failing host or want of memory it is the text that
+-- says so, or that of the answer whose note failed.
+abbrev pub NoteOf : (Status → World → World → List ℕ → Type 0) → Status → World → World → List ℕ → Type 0
+NoteOf answer HostFault old new whole = (whole ≡ refusal_note Host) ⊎ IsAnswersNote answer old new whole
+NoteOf answer NoMemory old new whole = (whole ≡ refusal_note Memory) ⊎ IsAnswersNote answer old new whole
+NoteOf answer status old new whole = answer status old new whole
+
+-- What a call did: its work, and then a note.
+pub record Answers (answer : Status → World → World → List ℕ → Type 0) (may_change : World → World → Type 0) (old new : World) (status : Status) : Type 0 where
+  pub worked : World
+  pub whole : List ℕ
+  pub note : List ℕ
+  pub may : may_change old worked
+  pub says : NoteOf answer status old worked whole
+  pub begins : Begins note whole
+  pub exact : IsPlain status → note ≡ whole
+  pub world : new ≡ noted worked note
+
+-- the count does not fall, and rose where this was so
+pub record IsCaused (before now : ℕ) (failed : Type 0) : Type 0 where
+  pub later : before ≤ now
+  pub rose : failed → Rose before now
+
+-- the files are told, and this one is a program within the limits
+pub record IsRunnable (file : List ℕ) (w : World) (content : List ℕ) (program : Program) : Type 0 where
+  pub there : IsSomeAnd w.disk (λ disk. get disk.files file ≡ Some content)
+  pub fits : length content ≤ 1048576
+  pub form : IsFirstForm content program

@@ -1,0 +1,6 @@
+pub mod Answers
+pub mod Notes
+pub mod Runs
+pub mod Status
+pub mod Words
+pub mod Work

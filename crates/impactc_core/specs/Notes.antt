@@ -1,0 +1,63 @@
+-- The texts of the notes.
+use Rattle.std.specs.Prelude.{ℕ, List, [], ◌∷◌, ◌++◌, Result, Ok, Err, codes, decimal}
+use Rattle.std.specs.Fmt.{signed_decimal}
+use Rattle.ib_meaning.specs.FaultKind.{kind_name}
+use Rattle.ib_meaning.specs.Place.{place_text}
+use Rattle.impactc_core.specs.declared.core_err.CoreErr.{CoreErr}
+use Rattle.impactc_core.specs.declared.core_err.CoreErr.TheVariants.{Usage as BadWords, Source, HostFault as Host, NoMemory as Memory, TooLarge as Large}
+use Rattle.impactc_core.specs.declared.core_err.Limit.{Limit}
+use Rattle.impactc_core.specs.declared.core_err.Limit.TheVariants.{Source as SourceBytes}
+use Rattle.impactc_core.specs.declared.core_err.SourceFault.{SourceFault}
+use Rattle.impactc_core.specs.declared.core_err.SourceFault.TheVariants.{NotInThisVersion}
+use Rattle.impactc_core.specs.declared.status.Status.{Status}
+use Rattle.impactc_core.specs.declared.status.Status.TheVariants.{Done, Usage, SourceRefused, HostFault, NoMemory, TooLarge, ProgramFault}
+use Rattle.impactc_core.specs.declared.success.Success.{Success}
+use Rattle.impactc_core.specs.declared.success.Success.TheVariants.{Ended, Faulted}
+
+abbrev pub source_text : SourceFault → List ℕ
+source_text NotInThisVersion = codes "not in this version"
+
+abbrev pub limit_text : Limit → List ℕ
+limit_text SourceBytes = codes "source 1048576"
+
+-- what a command says that did its work
+abbrev pub success_text : Success → List ℕ
+success_text (Ended result cycles) = codes "ended " ++ signed_decimal result ++ codes " after " ++ decimal cycles ++ codes " cycles"
+success_text (Faulted place kind cycles) = codes "fault " ++ kind_name kind ++ codes " at " ++ place_text place ++ codes " after " ++ decimal cycles ++ codes " cycles"
+
+abbrev pub usage_text : List ℕ
+usage_text = codes "usage: impactc check F, interp F, profile F --to P, build F [--profile P] [--machine M] --to W, exec W [--cycles N], run F [--profile P] [--machine M] [--cycles N], demo N"
+
+-- what a refusal says
+abbrev pub refusal_text : CoreErr → List ℕ
+refusal_text BadWords = usage_text
+refusal_text (Source file place fault) = file ++ codes ":" ++ place_text place ++ codes ": " ++ source_text fault
+refusal_text Host = codes "host fault"
+refusal_text Memory = codes "out of memory"
+refusal_text (Large limit) = codes "too large: " ++ limit_text limit
+
+-- a note ends its line
+abbrev pub success_note : Success → List ℕ
+success_note success = success_text success ++ 10 ∷ []
+
+abbrev pub refusal_note : CoreErr → List ℕ
+refusal_note refusal = refusal_text refusal ++ 10 ∷ []
+
+abbrev pub note_of : Result Success CoreErr → List ℕ
+note_of (Ok success) = success_note success
+note_of (Err refusal) = refusal_note refusal
+
+abbrev pub success_status : Success → Status
+success_status (Ended result cycles) = Done
+success_status (Faulted place kind cycles) = ProgramFault
+
+abbrev pub refusal_status : CoreErr → Status
+refusal_status BadWords = Usage
+refusal_status (Source file place fault) = SourceRefused
+refusal_status Host = HostFault
+refusal_status Memory = NoMemory
+refusal_status (Large limit) = TooLarge
+
+abbrev pub status_of : Result Success CoreErr → Status
+status_of (Ok success) = success_status success
+status_of (Err refusal) = refusal_status refusal

@@ -1,0 +1,90 @@
+-- What the parts of a command's work come to.
+use Rattle.std.specs.Prelude.{◌≡◌, ◌≤◌, ◌<◌, ◌⊎◌, ⊤, ℕ, List, length, Result}
+use Rattle.ib_meaning.specs.Agreement.{Agrees}
+use Rattle.ib_base.specs.World.{World, HasFile, Begins, noted}
+use Rattle.wide_core.specs.declared.code.RawCode.{RawCode}
+use Rattle.wide_core.specs.Meaning.{wide_meaning}
+use Rattle.first_form.specs.declared.program.Program.{Program}
+use Rattle.first_form.specs.FirstForm.{IsFirstForm}
+use Rattle.first_form.specs.Meaning.{source_meaning}
+use Rattle.first_code.specs.Plain.{IsPlain as IsPlainCode}
+use Rattle.impactc_core.specs.declared.core_err.CoreErr.{CoreErr}
+use Rattle.impactc_core.specs.declared.core_err.CoreErr.TheVariants.{Source, HostFault as Host, NoMemory as Memory, TooLarge as Large}
+use Rattle.impactc_core.specs.declared.core_err.Limit.TheVariants.{Source as SourceBytes}
+use Rattle.impactc_core.specs.declared.status.Status.{Status}
+use Rattle.impactc_core.specs.declared.status.Status.TheVariants.{HostFault, NoMemory}
+use Rattle.impactc_core.specs.declared.success.Success.{Success}
+use Rattle.impactc_core.specs.Answers.{IsPlain}
+use Rattle.impactc_core.specs.Notes.{refusal_note, status_of, note_of}
+use Rattle.wide_sim.specs.Simulated.{Finishes}
+use Rattle.impactc_core.specs.Runs.{PrintsPartOf, finish_of, cycles_of}
+
+-- the file's content passes the limit
+pub record IsLarge (file : List ℕ) (w : World) : Type 0 where
+  pub content : List ℕ
+  pub there : HasFile w file content
+  pub large : 1048576 < length content
+
+-- why a source was not read
+abbrev pub IsReadErr : List ℕ → World → CoreErr → Type 0
+IsReadErr file w (Large limit) = (limit ≡ SourceBytes) × IsLarge file w
+IsReadErr file w Host = ⊤
+IsReadErr file w Memory = ⊤
+IsReadErr file w refusal = ⊥
+
+-- a run breaks off by the host's failure or for want of memory alone
+abbrev pub IsBreak : CoreErr → Type 0
+IsBreak Host = ⊤
+IsBreak Memory = ⊤
+IsBreak refusal = ⊥
+
+-- a code of the program was run to its end
+pub record RunsProgram (program : Program) (success : Success) (old new : World) : Type 0 where
+  pub code : RawCode
+  pub plain : IsPlainCode code
+  pub agrees : Agrees (source_meaning program) (wide_meaning code)
+  pub some : 1 ≤ cycles_of success
+  pub runs : Finishes (wide_meaning code) (finish_of success) (cycles_of success) 100000000 old new
+
+-- the text that a status goes with, behind this work
+abbrev pub NoteFor : Result Success CoreErr → Status → List ℕ → Type 0
+NoteFor work HostFault whole = (whole ≡ note_of work) × ((status_of work ≡ HostFault) ⊎ IsPlain (status_of work))
+NoteFor work NoMemory whole = (whole ≡ refusal_note Memory) ⊎ ((whole ≡ note_of work) × IsPlain (status_of work))
+NoteFor work status whole = (whole ≡ note_of work) × (status ≡ status_of work)
+
+-- a note was left, or a beginning of it where that failed
+pub record LeavesNote (work : Result Success CoreErr) (old new : World) (status : Status) : Type 0 where
+  pub whole : List ℕ
+  pub note : List ℕ
+  pub says : NoteFor work status whole
+  pub begins : Begins note whole
+  pub exact : IsPlain status → note ≡ whole
+  pub world : new ≡ noted old note
+
+-- the status behind a note that failed: one that says so already stays
+abbrev pub status_behind : Status → Status → Status
+status_behind HostFault failed = HostFault
+status_behind NoMemory failed = NoMemory
+status_behind status failed = failed
+
+-- the note was left with its status, or a beginning of it with that of the failure
+pub record Leaves (whole : List ℕ) (status : Status) (old new : World) (result : Status) : Type 0 where
+  pub note : List ℕ
+  pub begins : Begins note whole
+  pub world : new ≡ noted old note
+  pub comes : ((result ≡ status) × (note ≡ whole)) ⊎ ((result ≡ status_behind status HostFault) ⊎ (result ≡ status_behind status NoMemory))
+
+-- a source's program was run to its end
+pub record RunsSource (bytes : List ℕ) (success : Success) (old new : World) : Type 0 where
+  pub program : Program
+  pub form : IsFirstForm bytes program
+  pub runs : RunsProgram program success old new
+
+-- Why a source was not run to its end: it is in no form of this version, and then nothing changed; or the run of its program
+-- broke off; or it was not run for want of memory.
+abbrev pub RefusesSource : (file bytes : List ℕ) → CoreErr → (old new : World) → Type 0
+RefusesSource file bytes (Source name place fault) old new =
+    (name ≡ file) × (place ≡ record { line = 1; col = 1 }) × ((program : Program) → IsFirstForm bytes program → ⊥) × (new ≡ old)
+RefusesSource file bytes Host old new = (program : Program) × IsFirstForm bytes program × PrintsPartOf (source_meaning program) old new
+RefusesSource file bytes Memory old new = (new ≡ old) ⊎ ((program : Program) × IsFirstForm bytes program × PrintsPartOf (source_meaning program) old new)
+RefusesSource file bytes refusal old new = ⊥

@@ -1,0 +1,82 @@
+use crate::FileName;
+use ib_base::Place;
+use std::fmt;
+
+/// Why a source is refused.
+#[derive(Clone, Copy, Debug)]
+pub enum SourceFault {
+    /// The source has a form that this version does not compile.
+    NotInThisVersion,
+}
+
+/// A quantity that has a limit.
+#[derive(Clone, Copy, Debug)]
+pub enum Limit {
+    /// The bytes of a source file.
+    Source,
+}
+
+/// Why a command is refused, with what the note shows.
+#[derive(Debug, Drop)]
+pub enum CoreErr {
+    Usage,
+    Source {
+        file: FileName,
+        place: Place,
+        fault: SourceFault,
+    },
+    HostFault,
+    NoMemory,
+    TooLarge {
+        limit: Limit,
+    },
+}
+
+impl fmt::Display for SourceFault {
+    ghost use Rattle.std.specs.Prelude.{Some};
+    ghost use Rattle.impactc_core.specs.Notes.{source_text};
+
+    ghost output = { λ fault. Some (source_text fault) };
+
+    fn fmt<W: fmt::Write>(&self, f: &mut fmt::Formatter<W>) -> fmt::Result {
+        match self {
+            SourceFault::NotInThisVersion => f.write_str("not in this version"),
+        }
+    }
+}
+
+impl fmt::Display for Limit {
+    ghost use Rattle.std.specs.Prelude.{Some};
+    ghost use Rattle.impactc_core.specs.Notes.{limit_text};
+
+    ghost output = { λ limit. Some (limit_text limit) };
+
+    fn fmt<W: fmt::Write>(&self, f: &mut fmt::Formatter<W>) -> fmt::Result {
+        match self {
+            Limit::Source => f.write_str("source 1048576"),
+        }
+    }
+}
+
+impl fmt::Display for CoreErr {
+    ghost use Rattle.std.specs.Prelude.{Some};
+    ghost use Rattle.impactc_core.specs.Notes.{refusal_text};
+
+    ghost output = { λ refusal. Some (refusal_text refusal) };
+
+    fn fmt<W: fmt::Write>(&self, f: &mut fmt::Formatter<W>) -> fmt::Result {
+        match self {
+            CoreErr::Usage => f.write_str(USAGE),
+            CoreErr::Source { file, place, fault } => write!(f, "{file}:{place}: {fault}"),
+            CoreErr::HostFault => f.write_str("host fault"),
+            CoreErr::NoMemory => f.write_str("out of memory"),
+            CoreErr::TooLarge { limit } => write!(f, "too large: {limit}"),
+        }
+    }
+}
+
+impl std::error::Error for CoreErr {}
+
+/// All commands, those that a later version has among them.
+pub const USAGE: &str =
+    "usage: impactc check F, interp F, profile F --to P, build F [--profile P] [--machine M] --to W, exec W [--cycles N], run F [--profile P] [--machine M] [--cycles N], demo N";

@@ -1,0 +1,20 @@
+//! The top call: words and a host in, a status out.
+#![tactic(auto)]
+
+mod core_err;
+mod file_name;
+mod notes;
+mod run;
+mod status;
+mod success;
+#[cfg(test)]
+mod tests;
+mod top;
+mod words;
+
+pub use core_err::{CoreErr, Limit, SourceFault};
+pub use file_name::FileName;
+pub use status::Status;
+pub use success::Success;
+pub use top::impactc;
+pub use words::{Command, WordsErr, read_words};

@@ -1,0 +1,6 @@
+pub mod Cover
+pub mod Found
+pub mod Lists
+pub mod Pairs
+pub mod Same
+pub mod Through

@@ -1,0 +1,8 @@
+pub mod Acts
+pub mod Counts
+pub mod Cover
+pub mod Live
+pub mod Meaning
+pub mod Program
+pub mod Rules
+pub mod Traces

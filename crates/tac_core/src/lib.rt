@@ -1,0 +1,33 @@
+//! Three-address programs: what they are, which of them are valid, and what they mean.
+#![tactic(auto)]
+
+mod act;
+mod chain;
+mod chained_origins;
+mod code;
+mod copied;
+mod copies;
+mod count;
+mod counts;
+mod edges;
+mod formed;
+mod labels;
+mod live;
+mod matching;
+mod program;
+mod regs;
+mod rules;
+mod shape;
+#[cfg(test)]
+mod tests;
+
+pub use act::{Act, Size};
+pub use chain::{Chain, Traces};
+pub use code::{Block, End, TacFunc, TacOp};
+pub use copied::Copied;
+pub use counts::{Counts, FuncCounts};
+pub use edges::Edge;
+pub use formed::Formed;
+pub use live::Live;
+pub use program::TacProgram;
+pub use regs::Regs;

@@ -1,0 +1,94 @@
+use crate::code::TacFunc;
+use crate::copies::copy_funcs;
+use crate::count::with_func_ops;
+use crate::shape::keeps_rules;
+use ib_base::Place;
+use sqlite_items::Items;
+use std::alloc::{AllocError, Global};
+use std::marker::Model;
+
+/// A valid three-address program.
+#[derive(Drop)]
+pub struct TacProgram {
+    image: Items<u8>,
+    places: Items<Place>,
+    funcs: Items<TacFunc>,
+}
+
+impl Model for TacProgram {
+    ghost use Rattle.tac_core.specs.Program.{Program};
+    ghost use Rattle.tac_core.specs.Rules.{IsValid};
+
+    ghost Value = { Program };
+
+    ghost view = { λ p. record { image = p.image; places = p.places; funcs = p.funcs } };
+
+    ghost invariant = { λ p. IsValid (record { image = p.image; places = p.places; funcs = p.funcs }) };
+}
+
+impl TacProgram {
+    ghost use Rattle.std.specs.Prelude.{◌≡◌, IfOk, MatchOption};
+    ghost use Rattle.tac_core.specs.Program.{Program, capped, program_ops};
+    ghost use Rattle.tac_core.specs.Rules.{IsValid};
+
+    /// The program of these parts, or `None` where they break a rule.
+    pub fn assemble(image: Vec<u8>, places: Vec<Place>, funcs: Vec<TacFunc>) -> Option<TacProgram>
+        ensures { let parts : Program = record { image = image.items; places = places.items; funcs = funcs.items } in MatchOption result (IsValid parts → ⊥) (λ p. (p ≡ parts) × IsValid parts) }
+    {
+        if keeps_rules(image.len(), places.len(), funcs.as_slice()) {
+            Some(TacProgram {
+                image: Items::from_vec(image),
+                places: Items::from_vec(places),
+                funcs: Items::from_vec(funcs),
+            })
+        } else {
+            None
+        }
+    }
+
+    /// The functions by number.
+    pub fn funcs(&self) -> &[TacFunc]
+        ensures value { result.now ≡ self.now.funcs }
+        ensures valid { IsValid self.now }
+    {
+        self.funcs.as_slice()
+    }
+
+    /// The statements' places.
+    pub fn places(&self) -> &[Place]
+        ensures { result.now ≡ self.now.places }
+    {
+        self.places.as_slice()
+    }
+
+    /// The memory's bytes from 4096 on, as they are at first.
+    pub fn image(&self) -> &[u8]
+        ensures { result.now ≡ self.now.image }
+    {
+        self.image.as_slice()
+    }
+
+    /// The number of operations and ends of blocks, or the greatest number where there are more.
+    pub fn ops(&self) -> u64
+        ensures { result ≡ capped (program_ops self.now) }
+    {
+        let mut total = 0;
+        for func in self.funcs.as_slice() {
+            total = with_func_ops(total, func);
+        }
+        total
+    }
+
+    pub fn copy(&self, alloc: Global) -> Result<TacProgram, AllocError>
+        ensures { IfOk result (λ p. p ≡ self.now) }
+    {
+        let image = Items::from_slice(alloc, self.image.as_slice())?;
+        let places = Items::from_slice(alloc, self.places.as_slice())?;
+        let funcs = copy_funcs(alloc, self.funcs.as_slice())?;
+        Ok(TacProgram {
+            image,
+            places,
+            funcs,
+        })
+    }
+}

@@ -1,0 +1,453 @@
+use crate::{
+    Act, Block, Chain, Copied, Counts, End, Live, Regs, Size, TacFunc, TacOp, TacProgram, Traces,
+};
+use ib_base::{Place, Text, Width};
+use smallvec::SmallVec;
+use sqlite_items::Items;
+use std::alloc::{AllocError, Global};
+use std::test::Fail;
+
+/// The image's bytes, the second function and the frame of `main`.
+#[derive(Clone, Copy)]
+struct Shape {
+    image: usize,
+    main: &'static [u8],
+    second: &'static [u8],
+    params: &'static [u32],
+    frame: u32,
+}
+
+/// The operations of block 0.
+#[derive(Clone, Copy)]
+struct Code {
+    stmt: u32,
+    to: u32,
+    from: u32,
+    offset: i64,
+    bound: i64,
+    more: usize,
+}
+
+/// The ends of blocks 0 and 1: a branch and a call.
+#[derive(Clone, Copy)]
+struct Ends {
+    stmt: u32,
+    reg: u32,
+    yes: u32,
+    no: u32,
+    dest: u32,
+    func: u32,
+    args: &'static [u32],
+    next: u32,
+}
+
+const SHAPE: Shape = Shape {
+    image: 3,
+    main: b"main",
+    second: b"_f1",
+    params: &[1, 0],
+    frame: 32,
+};
+
+const CODE: Code = Code {
+    stmt: 1,
+    to: 1,
+    from: 0,
+    offset: -1_048_576,
+    bound: 1,
+    more: 509,
+};
+
+const ENDS: Ends = Ends {
+    stmt: 0,
+    reg: 0,
+    yes: 1,
+    no: 2,
+    dest: 1,
+    func: 1,
+    args: &[0, 0],
+    next: 2,
+};
+
+fn add_op(ops: &mut Items<TacOp>, stmt: u32, act: Act) -> Result<(), AllocError> {
+    ops.push(TacOp { stmt, act })
+}
+
+fn ops_of(alloc: Global, code: &Code) -> Result<Items<TacOp>, AllocError> {
+    let stmt = code.stmt;
+    let mut ops = Items::new(alloc);
+    add_op(
+        &mut ops,
+        stmt,
+        Act::Const {
+            to: code.to,
+            value: 1,
+        },
+    )?;
+    let load = Act::Load {
+        width: Width::W4,
+        to: 1,
+        base: code.from,
+        offset: code.offset,
+    };
+    add_op(&mut ops, stmt, load)?;
+    add_op(
+        &mut ops,
+        stmt,
+        Act::Bounds {
+            to: 1,
+            from: 0,
+            bound: code.bound,
+        },
+    )?;
+    for _ in 0..code.more {
+        add_op(
+            &mut ops,
+            stmt,
+            Act::Add {
+                size: Size::Four,
+                to: 0,
+                left: 0,
+                right: 1,
+            },
+        )?;
+    }
+    Ok(ops)
+}
+
+fn empty_block(alloc: Global, end: End) -> Block {
+    Block {
+        ops: Items::new(alloc),
+        end,
+        end_stmt: 0,
+    }
+}
+
+fn call_of(alloc: Global, ends: &Ends) -> Result<End, AllocError> {
+    let args = Regs::keep(SmallVec::from_slice(alloc, ends.args)?);
+    Ok(End::Call {
+        dest: Some(ends.dest),
+        func: ends.func,
+        args,
+        next: ends.next,
+    })
+}
+
+fn blocks_of(alloc: Global, code: &Code, ends: &Ends) -> Result<Items<Block>, AllocError> {
+    let mut blocks = Items::new(alloc);
+    let ops = ops_of(alloc, code)?;
+    let end = End::Branch {
+        reg: ends.reg,
+        yes: ends.yes,
+        no: ends.no,
+    };
+    blocks.push(Block {
+        ops,
+        end,
+        end_stmt: ends.stmt,
+    })?;
+    let call = call_of(alloc, ends)?;
+    blocks.push(empty_block(alloc, call))?;
+    blocks.push(empty_block(alloc, End::Ret(Some(1))))?;
+    Ok(blocks)
+}
+
+fn returning(alloc: Global, name: &[u8], params: &[u32]) -> Result<TacFunc, AllocError> {
+    let name = Text::from_bytes(alloc, name)?;
+    let params = Items::from_slice(alloc, params)?;
+    let mut blocks = Items::new(alloc);
+    blocks.push(empty_block(alloc, End::Ret(None)))?;
+    Ok(TacFunc {
+        name,
+        params,
+        regs: 9,
+        frame: 0,
+        blocks,
+    })
+}
+
+fn main_of(alloc: Global, shape: &Shape, blocks: Items<Block>) -> Result<TacFunc, AllocError> {
+    let name = Text::from_bytes(alloc, shape.main)?;
+    let params = Items::new(alloc);
+    Ok(TacFunc {
+        name,
+        params,
+        regs: 2,
+        frame: shape.frame,
+        blocks,
+    })
+}
+
+fn assembled(
+    alloc: Global,
+    image: usize,
+    main: TacFunc,
+    second: TacFunc,
+) -> Result<Option<TacProgram>, AllocError> {
+    let mut funcs = Vec::new(alloc);
+    funcs.push(main)?;
+    funcs.push(second)?;
+    let mut places = Vec::new(alloc);
+    places.push(Place { line: 1, col: 1 })?;
+    places.push(Place { line: 2, col: 3 })?;
+    let mut bytes = Vec::new(alloc);
+    bytes.resize(image, 7)?;
+    Ok(TacProgram::assemble(bytes, places, funcs))
+}
+
+fn program(
+    alloc: Global,
+    shape: &Shape,
+    code: &Code,
+    ends: &Ends,
+) -> Result<Option<TacProgram>, AllocError> {
+    let blocks = blocks_of(alloc, code, ends)?;
+    let main = main_of(alloc, shape, blocks)?;
+    let second = returning(alloc, shape.second, shape.params)?;
+    assembled(alloc, shape.image, main, second)
+}
+
+fn is_valid(alloc: Global, shape: &Shape, code: &Code, ends: &Ends) -> Result<bool, AllocError> {
+    let program = program(alloc, shape, code, ends)?;
+    Ok(program.is_some())
+}
+
+/// A row for each rule on functions.
+fn wrong_shape(row: u32) -> Shape {
+    match row {
+        0 => Shape {
+            image: 524_289,
+            ..SHAPE
+        },
+        1 => Shape {
+            main: b"main2",
+            ..SHAPE
+        },
+        2 => Shape {
+            second: b"main",
+            ..SHAPE
+        },
+        3 => Shape {
+            second: b"",
+            ..SHAPE
+        },
+        4 => Shape {
+            second: b"1f",
+            ..SHAPE
+        },
+        5 => Shape {
+            second: b"f-",
+            ..SHAPE
+        },
+        6 => Shape {
+            params: &[1, 1],
+            ..SHAPE
+        },
+        7 => Shape {
+            params: &[1, 9],
+            ..SHAPE
+        },
+        8 => Shape { frame: 8, ..SHAPE },
+        _ => Shape {
+            frame: 262_160,
+            ..SHAPE
+        },
+    }
+}
+
+/// A row for each rule on operations.
+fn wrong_code(row: u32) -> Code {
+    match row {
+        0 => Code { stmt: 2, ..CODE },
+        1 => Code { to: 2, ..CODE },
+        2 => Code { from: 2, ..CODE },
+        3 => Code {
+            offset: -1_048_577,
+            ..CODE
+        },
+        4 => Code {
+            offset: 1_048_577,
+            ..CODE
+        },
+        5 => Code { bound: 0, ..CODE },
+        _ => Code { more: 510, ..CODE },
+    }
+}
+
+/// A row for each rule on ends.
+fn wrong_ends(row: u32) -> Ends {
+    match row {
+        0 => Ends { stmt: 2, ..ENDS },
+        1 => Ends { reg: 2, ..ENDS },
+        2 => Ends { yes: 0, ..ENDS },
+        3 => Ends { no: 3, ..ENDS },
+        4 => Ends { no: 1, ..ENDS },
+        5 => Ends { func: 2, ..ENDS },
+        6 => Ends { args: &[0], ..ENDS },
+        7 => Ends {
+            args: &[0, 2],
+            ..ENDS
+        },
+        8 => Ends { dest: 2, ..ENDS },
+        _ => Ends { next: 0, ..ENDS },
+    }
+}
+
+#[test]
+fn refuses_wrong_functions(rt: HostRuntime) -> Result<(), Fail> {
+    for row in 0..10 {
+        let valid = is_valid(rt.alloc(), &wrong_shape(row), &CODE, &ENDS)?;
+        assert!(rt; !valid, "row {row}");
+    }
+    Ok(())
+}
+
+#[test]
+fn refuses_wrong_operations(rt: HostRuntime) -> Result<(), Fail> {
+    for row in 0..7 {
+        let valid = is_valid(rt.alloc(), &SHAPE, &wrong_code(row), &ENDS)?;
+        assert!(rt; !valid, "row {row}");
+    }
+    Ok(())
+}
+
+#[test]
+fn refuses_wrong_ends(rt: HostRuntime) -> Result<(), Fail> {
+    for row in 0..10 {
+        let valid = is_valid(rt.alloc(), &SHAPE, &CODE, &wrong_ends(row))?;
+        assert!(rt; !valid, "row {row}");
+    }
+    Ok(())
+}
+
+#[test]
+fn takes_what_is_just_within(rt: HostRuntime) -> Result<(), Fail> {
+    let shape = Shape {
+        image: 524_288,
+        frame: 262_144,
+        second: b"while",
+        ..SHAPE
+    };
+    let code = Code {
+        offset: 1_048_576,
+        ..CODE
+    };
+    assert!(rt; is_valid(rt.alloc(), &SHAPE, &CODE, &ENDS)?);
+    assert!(rt; is_valid(rt.alloc(), &shape, &code, &ENDS)?);
+    Ok(())
+}
+
+#[test]
+fn bounds_parameters(rt: HostRuntime) -> Result<(), Fail> {
+    let eight = Shape {
+        params: &[0, 1, 2, 3, 4, 5, 6, 7],
+        ..SHAPE
+    };
+    let nine = Shape {
+        params: &[0, 1, 2, 3, 4, 5, 6, 7, 8],
+        ..SHAPE
+    };
+    let with_eight = Ends {
+        args: &[0, 0, 0, 0, 0, 0, 0, 1],
+        ..ENDS
+    };
+    let with_nine = Ends {
+        args: &[0, 0, 0, 0, 0, 0, 0, 1, 1],
+        ..ENDS
+    };
+    assert!(rt; is_valid(rt.alloc(), &eight, &CODE, &with_eight)?);
+    assert!(rt; !is_valid(rt.alloc(), &nine, &CODE, &with_nine)?);
+    Ok(())
+}
+
+#[test]
+fn tells_its_parts(rt: HostRuntime) -> Result<(), Fail> {
+    let program = program(rt.alloc(), &SHAPE, &CODE, &ENDS)?.ok_or("valid")?;
+    assert_eq!(rt; program.ops(), 516);
+    assert_eq!(rt; program.funcs().len(), 2);
+    assert_eq!(rt; program.places().len(), 2);
+    assert_eq!(rt; program.image(), [7, 7, 7].as_slice());
+    Ok(())
+}
+
+#[test]
+fn copies_each_block_once(rt: HostRuntime) -> Result<(), Fail> {
+    let program = program(rt.alloc(), &SHAPE, &CODE, &ENDS)?.ok_or("valid")?;
+    let copied = Copied::same(rt.alloc(), &program)?;
+    assert_eq!(rt; copied.tac().ops(), 516);
+    assert_eq!(rt; copied.origin(0, 2), Some(2));
+    assert_eq!(rt; copied.origin(0, 3), None);
+    assert_eq!(rt; copied.origin(2, 0), None);
+    Ok(())
+}
+
+#[test]
+fn counts_nothing_at_first(rt: HostRuntime) -> Result<(), Fail> {
+    let program = program(rt.alloc(), &SHAPE, &CODE, &ENDS)?.ok_or("valid")?;
+    let counts = Counts::zero(rt.alloc(), &program)?;
+    assert!(rt; counts.matches(&program));
+    assert_eq!(rt; counts.funcs().len(), 2);
+    assert_eq!(rt; counts.edge(0, 0, 1), 0);
+    assert_eq!(rt; counts.entries(1), 0);
+    Ok(())
+}
+
+/// `const r0 1` and a branch on r0, and blocks that return.
+fn branching(alloc: Global, no: u32, returns: usize) -> Result<Option<TacProgram>, AllocError> {
+    let mut ops = Items::new(alloc);
+    add_op(&mut ops, 0, Act::Const { to: 0, value: 1 })?;
+    let mut blocks = Items::new(alloc);
+    let end = End::Branch { reg: 0, yes: 1, no };
+    blocks.push(Block {
+        ops,
+        end,
+        end_stmt: 0,
+    })?;
+    for _ in 0..returns {
+        blocks.push(empty_block(alloc, End::Ret(None)))?;
+    }
+    let main = main_of(alloc, &SHAPE, blocks)?;
+    let mut funcs = Vec::new(alloc);
+    funcs.push(main)?;
+    let mut places = Vec::new(alloc);
+    places.push(Place { line: 1, col: 1 })?;
+    Ok(TacProgram::assemble(Vec::new(alloc), places, funcs))
+}
+
+#[test]
+fn wants_two_targets(rt: HostRuntime) -> Result<(), Fail> {
+    let same = branching(rt.alloc(), 1, 1)?;
+    let two = branching(rt.alloc(), 2, 2)?.ok_or("valid")?;
+    assert!(rt; same.is_none());
+    assert_eq!(rt; two.ops(), 4);
+    Ok(())
+}
+
+#[test]
+fn tells_chains(rt: HostRuntime) -> Result<(), Fail> {
+    let labels = Items::from_slice(rt.alloc(), &[0, 2])?;
+    let chain = Chain::keep(labels);
+    assert_eq!(rt; chain.list(), [0, 2].as_slice());
+    let mut chains = Items::new(rt.alloc());
+    chains.push(chain)?;
+    let mut funcs = Items::new(rt.alloc());
+    funcs.push(chains)?;
+    let traces = Traces::keep(funcs);
+    assert!(rt; traces.chains(0).is_some());
+    assert!(rt; traces.chains(1).is_none());
+    Ok(())
+}
+
+#[test]
+fn tells_live_registers(rt: HostRuntime) -> Result<(), Fail> {
+    let mut labels = Items::new(rt.alloc());
+    labels.push(Items::from_slice(rt.alloc(), &[3, 5])?)?;
+    let mut funcs = Items::new(rt.alloc());
+    funcs.push(labels)?;
+    let live = Live::keep(funcs);
+    assert!(rt; live.at(0, 0, 5));
+    assert!(rt; !live.at(0, 0, 4));
+    assert!(rt; !live.at(0, 1, 5));
+    assert!(rt; !live.at(1, 0, 5));
+    Ok(())
+}

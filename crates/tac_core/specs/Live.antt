@@ -1,13 +1,13 @@
 -- Which registers are live at the start of a block.
 use Rattle.std.specs.Prelude.{◌≡◌, ◌≢◌, ℕ, ◌⊎◌, List, [], ◌∷◌, Option, Some, None, slice_get}
 use Rattle.std.specs.List.{All, Contains}
-use Rattle.tac_core.specs.declared.act.Act.{Act}
+use Rattle.ib_act.specs.declared.act.Act.{Act}
 use Rattle.tac_core.specs.declared.code.TacOp.{TacOp}
 use Rattle.tac_core.specs.declared.code.End.{End}
 use Rattle.tac_core.specs.declared.code.End.TheVariants.{Jump, Branch, Call, Ret}
 use Rattle.tac_core.specs.declared.code.Block.{Block}
 use Rattle.tac_core.specs.declared.code.TacFunc.{TacFunc}
-use Rattle.tac_core.specs.Acts.{target, first_source, second_source}
+use Rattle.ib_act.specs.Acts.{target, first_source, second_source}
 use Rattle.tac_core.specs.Counts.{IsTargetOf}
 
 abbrev pub Reads : Act → ℕ → Type 0

@@ -11,14 +11,14 @@ use Rattle.ib_meaning.specs.declared.fault.FaultKind.{FaultKind}
 use Rattle.ib_meaning.specs.declared.fault.FaultKind.TheVariants.{BadAddress, StackOverflow}
 use Rattle.ib_meaning.specs.Agreement.{Meaning, Finish, Returned, Faulted}
 use Rattle.ib_meaning.specs.Machine.{Machine, Step, Goes, Stops, means}
-use Rattle.tac_core.specs.declared.act.Act.{Act}
-use Rattle.tac_core.specs.declared.act.Act.TheVariants.{Store, Get, PutByte, PutNumber}
+use Rattle.ib_act.specs.declared.act.Act.{Act}
+use Rattle.ib_act.specs.declared.act.Act.TheVariants.{Store, Get, PutByte, PutNumber}
 use Rattle.tac_core.specs.declared.code.TacOp.{TacOp}
 use Rattle.tac_core.specs.declared.code.End.{End}
 use Rattle.tac_core.specs.declared.code.End.TheVariants.{Jump, Branch, Call, Ret}
 use Rattle.tac_core.specs.declared.code.Block.{Block}
 use Rattle.tac_core.specs.declared.code.TacFunc.{TacFunc}
-use Rattle.tac_core.specs.Acts.{target, first_source, second_source, given, address, bytes_in}
+use Rattle.ib_act.specs.Acts.{target, first_source, second_source, given, address, bytes_in}
 use Rattle.tac_core.specs.Program.{Program, main_name, names}
 
 -- what an operation does to the registers, the memory, the input that is left and the output

@@ -1,13 +1,13 @@
 -- The rules that a valid program keeps.
 use Rattle.std.specs.Prelude.{◌≡◌, ◌≢◌, ℕ, ◌+◌, ◌%◌, ◌<◌, ◌≤◌, nat_le, ◌&&◌, ◌||◌, Bool, IsTrue, List, [], ◌∷◌, Option, Some, None, length, map, slice_get, IfSome, MatchOption}
 use Rattle.std.specs.List.{All, AllPairs, Any}
-use Rattle.tac_core.specs.declared.act.Act.{Act}
+use Rattle.ib_act.specs.declared.act.Act.{Act}
 use Rattle.tac_core.specs.declared.code.TacOp.{TacOp}
 use Rattle.tac_core.specs.declared.code.End.{End}
 use Rattle.tac_core.specs.declared.code.End.TheVariants.{Jump, Branch, Call, Ret}
 use Rattle.tac_core.specs.declared.code.Block.{Block}
 use Rattle.tac_core.specs.declared.code.TacFunc.{TacFunc}
-use Rattle.tac_core.specs.Acts.{target, first_source, second_source, HasGoodNumber}
+use Rattle.ib_act.specs.Acts.{target, first_source, second_source, HasGoodNumber}
 use Rattle.tac_core.specs.Program.{Program, main_name}
 
 -- a register that may be missing is one of the function's

@@ -1,5 +1,5 @@
-use crate::act::Act;
 use crate::regs::Regs;
+use ib_act::Act;
 use ib_base::Text;
 use sqlite_items::Items;
 

@@ -1,7 +1,6 @@
 //! Three-address programs: what they are, which of them are valid, and what they mean.
 #![tactic(auto)]
 
-mod act;
 mod chain;
 mod chained_origins;
 mod code;
@@ -21,13 +20,13 @@ mod shape;
 #[cfg(test)]
 mod tests;
 
-pub use act::{Act, Size};
 pub use chain::{Chain, Traces};
 pub use code::{Block, End, TacFunc, TacOp};
 pub use copied::Copied;
 pub use counts::{Counts, FuncCounts};
 pub use edges::Edge;
 pub use formed::Formed;
+pub use ib_act::{Act, Size};
 pub use live::Live;
 pub use program::TacProgram;
 pub use regs::Regs;

@@ -1,12 +1,9 @@
 ghost use Rattle.std.specs.Prelude.{◌≡◌, ◌≢◌, ◌<◌, ◌↔◌, IsTrue, length};
 ghost use Rattle.std.specs.List.{All, AllPairs, Any};
-ghost use Rattle.tac_core.specs.Acts.{HasGoodNumber};
 ghost use Rattle.tac_core.specs.Rules.{IsRegister, IsGoodAct, IsGoodOp, IsTarget, Takes, IsGoodEnd};
 
-use crate::act::Act;
 use crate::code::{End, TacFunc, TacOp};
-
-const REACH: i64 = 1_048_576;
+use ib_act::Act;
 
 fn is_register(regs: u32, register: Option<u32>) -> bool
     ensures { IsTrue result ↔ IsRegister regs register }
@@ -17,24 +14,13 @@ fn is_register(regs: u32, register: Option<u32>) -> bool
     }
 }
 
-fn has_good_number(act: Act) -> bool
-    ensures { IsTrue result ↔ HasGoodNumber act }
-{
-    match act {
-        Act::Load { offset, .. } => -REACH <= offset && offset <= REACH,
-        Act::Store { offset, .. } => -REACH <= offset && offset <= REACH,
-        Act::Bounds { bound, .. } => 1 <= bound,
-        _ => true,
-    }
-}
-
 fn is_good_act(regs: u32, act: Act) -> bool
     ensures { IsTrue result ↔ IsGoodAct regs act }
 {
     is_register(regs, act.target())
         && is_register(regs, act.first_source())
         && is_register(regs, act.second_source())
-        && has_good_number(act)
+        && act.has_good_number()
 }
 
 pub fn is_good_op(regs: u32, places: usize, op: &TacOp) -> bool

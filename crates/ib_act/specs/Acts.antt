@@ -9,10 +9,10 @@ use Rattle.ib_base.specs.Integers.{wrapped, quotient, remainder, shifted_left, s
 use Rattle.ib_mem.specs.Memory.{loaded}
 use Rattle.ib_meaning.specs.declared.fault.FaultKind.{FaultKind}
 use Rattle.ib_meaning.specs.declared.fault.FaultKind.TheVariants.{BadAddress, Bounds as OutOfBounds}
-use Rattle.tac_core.specs.declared.act.Size.{Size}
-use Rattle.tac_core.specs.declared.act.Size.TheVariants.{Four, Eight}
-use Rattle.tac_core.specs.declared.act.Act.{Act}
-use Rattle.tac_core.specs.declared.act.Act.TheVariants.{Const, Mov, Add, Sub, And, Or, Xor, ShiftLeft, ShiftRight, Equal, NotEqual, Less, LessEqual, ExtByte, ExtFour, FrameAddress, Bounds, Mul, Div, Rem, Load, Store, Get, PutByte, PutNumber}
+use Rattle.ib_act.specs.declared.act.Size.{Size}
+use Rattle.ib_act.specs.declared.act.Size.TheVariants.{Four, Eight}
+use Rattle.ib_act.specs.declared.act.Act.{Act}
+use Rattle.ib_act.specs.declared.act.Act.TheVariants.{Const, Mov, Add, Sub, And, Or, Xor, ShiftLeft, ShiftRight, Equal, NotEqual, Less, LessEqual, ExtByte, ExtFour, FrameAddress, Bounds, Mul, Div, Rem, Load, Store, Get, PutByte, PutNumber}
 
 abbrev pub width_of : Size → Width
 width_of Four = W4

@@ -1,7 +1,10 @@
-ghost use Rattle.std.specs.Prelude.{◌≡◌};
-ghost use Rattle.tac_core.specs.Acts.{target, first_source, second_source};
+ghost use Rattle.std.specs.Prelude.{◌≡◌, ◌↔◌, IsTrue};
+ghost use Rattle.ib_act.specs.Acts.{target, first_source, second_source, HasGoodNumber};
 
 use ib_base::Width;
+
+/// How far an access may reach from its base, in bytes.
+const REACH: i64 = 1_048_576;
 
 /// How many bytes arithmetic wraps to.
 #[derive(Clone, Copy)]
@@ -232,6 +235,18 @@ impl Act {
             Act::Rem { right, .. } => Some(right),
             Act::Store { from, .. } => Some(from),
             _ => None,
+        }
+    }
+
+    /// Whether its numbers are in range: the offset of an access lies within 2^20 bytes, and a bound is 1 or more.
+    pub fn has_good_number(self) -> bool
+        ensures { IsTrue result ↔ HasGoodNumber self }
+    {
+        match self {
+            Act::Load { offset, .. } => -REACH <= offset && offset <= REACH,
+            Act::Store { offset, .. } => -REACH <= offset && offset <= REACH,
+            Act::Bounds { bound, .. } => 1 <= bound,
+            _ => true,
         }
     }
 }

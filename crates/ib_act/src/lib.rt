@@ -2,5 +2,7 @@
 #![tactic(auto)]
 
 mod act;
+mod value;
 
 pub use act::{Act, Size};
+pub use value::{address, bytes_in};

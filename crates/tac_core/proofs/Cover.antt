@@ -25,7 +25,7 @@ module _ (all : List Origins) where
   -- the copy's state beside the origin's: the same, but for labels
   data AreFrom : List Waiting → List Waiting → Type 0 where
     Nobody : AreFrom [] []
-    Another : (func base : ℕ) (regs : List ℤ) (dest : Option ℕ) (l o : ℕ) (ws vs : List Waiting) → IsFrom_in (slice_get all func) l o → AreFrom ws vs → AreFrom (record { func = func; base = base; regs = regs; dest = dest; next = l } ∷ ws) (record { func = func; base = base; regs = regs; dest = dest; next = o } ∷ vs)
+    Another : (func k m base : ℕ) (regs : List ℤ) (dest : Option ℕ) (l o : ℕ) (ws vs : List Waiting) → IsFrom_in (slice_get all func) l o → AreFrom ws vs → AreFrom (record { func = func; label = k; base = base; regs = regs; dest = dest; next = l } ∷ ws) (record { func = func; label = m; base = base; regs = regs; dest = dest; next = o } ∷ vs)
 
   data IsStateFrom : State → State → Type 0 where
     BothLost : IsStateFrom Lost Lost
@@ -33,7 +33,7 @@ module _ (all : List Origins) where
 
   same_depth : (ws vs : List Waiting) → AreFrom ws vs → length ws ≡ length vs
   same_depth ws vs Nobody = refl
-  same_depth ws vs (Another func base regs dest l o ws' vs' from a) = ap suc (same_depth ws' vs' a)
+  same_depth ws vs (Another func k m base regs dest l o ws' vs' from a) = ap suc (same_depth ws' vs' a)
 
   module _ (copy origin : List TacFunc) (places : List Place) (covers : (f : ℕ) → AreFuncsFrom (slice_get all f) (slice_get copy f) (slice_get origin f)) where
     -- the two blocks
@@ -101,7 +101,7 @@ module _ (all : List Origins) where
 
     return_alike : (v : ℤ) (ws vs : List Waiting) (memory left : List ℕ) → AreFrom ws vs → Alike IsStateFrom (do_return copy v ws memory left) (do_return origin v vs memory left)
     return_alike v ws vs memory left Nobody = (refl, refl, refl)
-    return_alike v ws vs memory left (Another func base regs dest l o ws' vs' from a) =
+    return_alike v ws vs memory left (Another func k m base regs dest l o ws' vs' from a) =
         (go_from func l o base from (set_in regs dest v) ws' vs' memory a, refl, refl)
 
     do_call_alike : (x y : Bool) → x ≡ y → (s t : State) → IsStateFrom s t → (place : Place) (left : List ℕ) → Alike IsStateFrom (do_call x s place left) (do_call y t place left)
@@ -111,8 +111,8 @@ module _ (all : List Origins) where
     do_call_alike false false e s t h place left = (h, refl, refl)
 
     -- the call of a function, in the copy and in the origin
-    enters : (func f base : ℕ) (args : List ℕ) (l o : ℕ) (d : Option ℕ) → IsFrom_in (slice_get all func) l o → (place : Place) (regs : List ℤ) (ws vs : List Waiting) (memory left : List ℕ) → AreFrom ws vs → Alike IsStateFrom (do_end_of copy (Call d f args l) place func base regs ws memory left) (do_end_of origin (Call d f args o) place func base regs vs memory left)
-    enters func f base args l o d from place regs ws vs memory left a =
+    enters : (func k m f base : ℕ) (args : List ℕ) (l o : ℕ) (d : Option ℕ) → IsFrom_in (slice_get all func) l o → (place : Place) (regs : List ℤ) (ws vs : List Waiting) (memory left : List ℕ) → AreFrom ws vs → Alike IsStateFrom (do_end_of copy (Call d f args l) place func k base regs ws memory left) (do_end_of origin (Call d f args o) place func m base regs vs memory left)
+    enters func k m f base args l o d from place regs ws vs memory left a =
         let top : ℕ = base + frame_of (slice_get copy func) in
         let other : ℕ = base + frame_of (slice_get origin func) in
         let same : top ≡ other = ap (λ n. base + n) (frames func) in
@@ -120,19 +120,19 @@ module _ (all : List Origins) where
         ap (λ n. overflows n top (frame_of (slice_get copy f))) (same_depth ws vs a)
         ∙ ap (λ n. overflows (length vs) n (frame_of (slice_get copy f))) same
         ∙ ap (λ n. overflows (length vs) other n) (frames f) in
-        let there = call_from f top (map (reg_of regs) args) _ _ memory (Another func base regs d l o ws vs from a) in
+        let there = call_from f top (map (reg_of regs) args) _ _ memory (Another func k m base regs d l o ws vs from a) in
         do_call_alike _ _ tests _ _
-        (subst (λ n. IsStateFrom (call copy f top (map (reg_of regs) args) (record { func = func; base = base; regs = regs; dest = d; next = l } ∷ ws) memory) (call origin f n (map (reg_of regs) args) (record { func = func; base = base; regs = regs; dest = d; next = o } ∷ vs) memory)) same there)
+        (subst (λ n. IsStateFrom (call copy f top (map (reg_of regs) args) (record { func = func; label = k; base = base; regs = regs; dest = d; next = l } ∷ ws) memory) (call origin f n (map (reg_of regs) args) (record { func = func; label = m; base = base; regs = regs; dest = d; next = o } ∷ vs) memory)) same there)
         place left
 
-    end_alike : (os : Origins) (func base : ℕ) → slice_get all func ≡ Some os → (e e' : End) → IsEndFrom os e e' → (place : Place) (regs : List ℤ) (ws vs : List Waiting) (memory left : List ℕ) → AreFrom ws vs → Alike IsStateFrom (do_end_of copy e place func base regs ws memory left) (do_end_of origin e' place func base regs vs memory left)
-    end_alike os func base x (Jump l) (Jump o) h place regs ws vs memory left a = (go_from func l o base (rw x h) regs ws vs memory a, refl, refl)
-    end_alike os func base x (Branch r y n) (Branch r' y' n') h place regs ws vs memory left a =
+    end_alike : (os : Origins) (func k m base : ℕ) → slice_get all func ≡ Some os → (e e' : End) → IsEndFrom os e e' → (place : Place) (regs : List ℤ) (ws vs : List Waiting) (memory left : List ℕ) → AreFrom ws vs → Alike IsStateFrom (do_end_of copy e place func k base regs ws memory left) (do_end_of origin e' place func m base regs vs memory left)
+    end_alike os func k m base x (Jump l) (Jump o) h place regs ws vs memory left a = (go_from func l o base (rw x h) regs ws vs memory a, refl, refl)
+    end_alike os func k m base x (Branch r y n) (Branch r' y' n') h place regs ws vs memory left a =
         rw (h.0) (go_from func _ _ base (rw x (target_from os (reg_of regs r') y n y' n' h.1 h.2)) regs ws vs memory a, refl, refl)
-    end_alike os func base x (Call d g args l) (Call d' g' args' o) h place regs ws vs memory left a =
-        rw (h.0, h.1, h.2) (enters func g' base args' l o d' (rw x h.3) place regs ws vs memory left a)
-    end_alike os func base x (Ret r) (Ret r') h place regs ws vs memory left a = rw h (return_alike (number_in regs r') ws vs memory left a)
-    end_alike os func base x _ _ h place regs ws vs memory left a = absurd h
+    end_alike os func k m base x (Call d g args l) (Call d' g' args' o) h place regs ws vs memory left a =
+        rw (h.0, h.1, h.2) (enters func k m g' base args' l o d' (rw x h.3) place regs ws vs memory left a)
+    end_alike os func k m base x (Ret r) (Ret r') h place regs ws vs memory left a = rw h (return_alike (number_in regs r') ws vs memory left a)
+    end_alike os func k m base x _ _ h place regs ws vs memory left a = absurd h
 
     done_alike : (func l o base : ℕ) (x : Option Origins) → slice_get all func ≡ x → IsFrom_in x l o → (regs : List ℤ) (ws vs : List Waiting) (memory left : List ℕ) → AreFrom ws vs → Alike IsStateFrom
         (do_end copy places (block_of (slice_get copy func) l) (record { func = func; label = l; base = base; regs = regs; ops = [] }) ws memory left)
@@ -140,7 +140,7 @@ module _ (all : List Origins) where
     done_alike func l o base None e from regs ws vs memory left a = absurd from
     done_alike func l o base (Some os) e from regs ws vs memory left a =
         let t = blocks func l o os e from in
-        rw (t.b_is, t.c_is, t.from.end_stmt) (end_alike os func base e t.b.«end» t.c.«end» t.from.ends (place_of places t.c.end_stmt) regs ws vs memory left a)
+        rw (t.b_is, t.c_is, t.from.end_stmt) (end_alike os func l o base e t.b.«end» t.c.«end» t.from.ends (place_of places t.c.end_stmt) regs ws vs memory left a)
 
     act_alike : (effect : Effect) (place : Place) (func l o base : ℕ) (regs : List ℤ) (ops rest : List TacOp) (ws vs : List Waiting) (left : List ℕ) → IsFrom_in (slice_get all func) l o → AreFrom ws vs → Alike IsStateFrom
         (after_act effect place (record { func = func; label = l; base = base; regs = regs; ops = ops }) rest ws left)

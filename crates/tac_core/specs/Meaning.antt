@@ -73,9 +73,10 @@ pub record Here : Type 0 where
   pub regs : List ℤ
   pub ops : List TacOp
 
--- a function that waits for a call: where its result goes and which block is next
+-- a function that waits for a call: the block that called, where its result goes and which block is next
 pub record Waiting : Type 0 where
   pub func : ℕ
+  pub label : ℕ
   pub base : ℕ
   pub regs : List ℤ
   pub dest : Option ℕ
@@ -148,21 +149,21 @@ abbrev pub do_call : Bool → State → Place → List ℕ → Step State
 do_call true callee place left = Stops (Faulted place StackOverflow) left []
 do_call false callee place left = Goes callee left []
 
-abbrev pub do_end_of : List TacFunc → End → Place → (func base : ℕ) → List ℤ → List Waiting → List ℕ → List ℕ → Step State
-do_end_of funcs (Jump l) place func base regs waiting memory left = Goes (go funcs func l base regs waiting memory) left []
-do_end_of funcs (Branch r y n) place func base regs waiting memory left =
+abbrev pub do_end_of : List TacFunc → End → Place → (func label base : ℕ) → List ℤ → List Waiting → List ℕ → List ℕ → Step State
+do_end_of funcs (Jump l) place func label base regs waiting memory left = Goes (go funcs func l base regs waiting memory) left []
+do_end_of funcs (Branch r y n) place func label base regs waiting memory left =
     Goes (go funcs func (target_of (reg_of regs r) y n) base regs waiting memory) left []
-do_end_of funcs (Call d f args l) place func base regs waiting memory left =
+do_end_of funcs (Call d f args l) place func label base regs waiting memory left =
     let top = base + frame_of (slice_get funcs func) in
     do_call (overflows (length waiting) top (frame_of (slice_get funcs f)))
-    (call funcs f top (map (reg_of regs) args) (record { func = func; base = base; regs = regs; dest = d; next = l } ∷ waiting) memory)
+    (call funcs f top (map (reg_of regs) args) (record { func = func; label = label; base = base; regs = regs; dest = d; next = l } ∷ waiting) memory)
     place left
-do_end_of funcs (Ret r) place func base regs waiting memory left = do_return funcs (number_in regs r) waiting memory left
+do_end_of funcs (Ret r) place func label base regs waiting memory left = do_return funcs (number_in regs r) waiting memory left
 
 abbrev pub do_end : List TacFunc → List Place → Option Block → Here → List Waiting → List ℕ → List ℕ → Step State
 do_end funcs places None here waiting memory left = Goes Lost left []
 do_end funcs places (Some b) here waiting memory left =
-    do_end_of funcs b.«end» (place_of places b.end_stmt) here.func here.base here.regs waiting memory left
+    do_end_of funcs b.«end» (place_of places b.end_stmt) here.func here.label here.base here.regs waiting memory left
 
 abbrev pub do_next : List TacOp → List TacFunc → List Place → Here → List Waiting → List ℕ → List ℕ → Step State
 do_next [] funcs places here waiting memory left =

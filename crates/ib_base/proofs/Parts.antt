@@ -1,5 +1,5 @@
 -- The beginning of a list.
-use Rattle.std.proofs.Common.{◌≡◌, ℕ, ◌+◌, ◌<◌, ◌≤◌, List, [], length, take, drop, Result, Ok, Err, OnErr, sym, refl, arith}
+use Rattle.std.proofs.Common.{◌≡◌, ℕ, ◌+◌, ◌<◌, ◌≤◌, List, [], length, take, drop, Option, Result, Ok, Err, OnErr, sym, refl, arith}
 use Rattle.std.proofs.lemmas.List.{take-append-drop, append-nil, length-take}
 use Rattle.ib_base.specs.World.{World, Begins, HasFile, IsBeginning, BeginsFile, silent, PrintsPart, NotesPart}
 
@@ -30,16 +30,16 @@ pub begins_file : (w : World) (name content : List ℕ) (limit : ℕ) (bytes : L
 begins_file w name content limit bytes there is long = record { content = content; there = there; begins = is.begins; long = is.length_is long }
 
 -- what a failed call of a host that tells nothing has written
-pub silent_prints : (bytes : List ℕ) → PrintsPart silent silent bytes
-silent_prints bytes = record { part = []; begins = begins_none bytes; world = refl }
+pub silent_prints : (input : Option (List ℕ)) (bytes : List ℕ) → PrintsPart (silent input) (silent input) bytes
+silent_prints input bytes = record { part = []; begins = begins_none bytes; world = refl }
 
-pub silent_notes : (bytes : List ℕ) → NotesPart silent silent bytes
-silent_notes bytes = record { part = []; begins = begins_none bytes; world = refl }
+pub silent_notes : (input : Option (List ℕ)) (bytes : List ℕ) → NotesPart (silent input) (silent input) bytes
+silent_notes input bytes = record { part = []; begins = begins_none bytes; world = refl }
 
 pub on_err : {T E P : Type 0} (result : Result T E) → P → OnErr result P
 on_err (Ok x) p = tt
 on_err (Err e) p = p
 
 -- what such a host has read of a file that is longer than the limit
-pub silent_begins : (name : List ℕ) (limit : ℕ) (bytes : List ℕ) → length bytes ≤ limit + 1 → limit < length bytes → BeginsFile silent name limit bytes
-silent_begins name limit bytes most longer = record { content = bytes; there = tt; begins = ([], sym (append-nil bytes)); long = omega arith }
+pub silent_begins : (input : Option (List ℕ)) (name : List ℕ) (limit : ℕ) (bytes : List ℕ) → length bytes ≤ limit + 1 → limit < length bytes → BeginsFile (silent input) name limit bytes
+silent_begins input name limit bytes most longer = record { content = bytes; there = tt; begins = ([], sym (append-nil bytes)); long = omega arith }

@@ -1,5 +1,5 @@
 -- What a host tells of the outside, and how its calls change it.
-use Rattle.std.specs.Prelude.{◌≡◌, ◌≢◌, ℕ, ◌+◌, ◌<◌, ◌≤◌, List, [], ◌∷◌, ◌++◌, length, Option, Some, None, IfSome, IsSomeAnd}
+use Rattle.std.specs.Prelude.{◌≡◌, ◌≢◌, ℕ, ◌+◌, ◌<◌, ◌≤◌, Bool, true, false, List, [], ◌∷◌, ◌++◌, length, Option, Some, None, IfSome, IsSomeAnd}
 use Rattle.std.specs.Option.{option_map}
 use Rattle.std.specs.Ordering.{nat_cmp}
 use Rattle.std.specs.Cmp.Lexicographic.{slice_cmp}
@@ -22,9 +22,14 @@ pub record World : Type 0 where
   pub output : Option (List ℕ)
   pub notes : Option (List ℕ)
 
--- nothing is told
-abbrev pub silent : World
-silent = record { disk = None; input = None; output = None; notes = None }
+-- of the input nothing but its end, once it was seen
+abbrev pub end_seen : Bool → Option (List ℕ)
+end_seen true = Some []
+end_seen false = None
+
+-- nothing is told but this of the input
+abbrev pub silent : Option (List ℕ) → World
+silent input = record { disk = None; input = input; output = None; notes = None }
 
 -- where files are told, the one of this name has this content
 abbrev pub HasFile : World → List ℕ → List ℕ → Type 0
@@ -101,9 +106,11 @@ pub record SpoilsFile (old new : World) (name : List ℕ) : Type 0 where
   pub rest : new ≡ record old { disk = new.disk }
   pub disk : Spoils old.disk new.disk name
 
--- the first byte of the input, where it is told, or the end
+-- the first byte of the input, where it is told, or the end; the end is told from then on, also by a host that tells no
+-- byte
 abbrev pub GivesByte : Option (List ℕ) → Option ℕ → Option (List ℕ) → Type 0
-GivesByte None byte left = left ≡ None
+GivesByte None None left = left ≡ Some []
+GivesByte None (Some byte) left = left ≡ None
 GivesByte (Some []) byte left = (byte ≡ None) × (left ≡ Some [])
 GivesByte (Some (first ∷ rest)) byte left = (byte ≡ Some first) × (left ≡ Some rest)
 

@@ -10,7 +10,8 @@ use std::{fs, io};
 /// How much of a file is read at once.
 const PIECE: usize = 8192;
 
-/// The files, the standard input and the two standard outputs of the process. It tells no content.
+/// The files, the standard input and the two standard outputs of the process. It tells no content, but the end of the
+/// input once it was seen.
 #[derive(Drop)]
 pub struct RealHost<R: Files + Input + Print + Eprint + Drop> {
     rt: R,
@@ -43,6 +44,7 @@ impl<R: Files + Input + Print + Eprint + Drop> RealHost<R> {
     fn counted<T>(&mut self, outcome: Result<T, HostErr>) -> Result<T, HostErr>
         ensures same { result ≡ outcome }
         ensures cause { HasCause self.old.faults self.new.faults result }
+        ensures same_input { self.new.ended ≡ self.old.ended }
     {
         if let Err(HostErr::Failed) = &outcome {
             self.faults = self.faults.saturating_add(1);
@@ -52,9 +54,9 @@ impl<R: Files + Input + Print + Eprint + Drop> RealHost<R> {
 }
 
 impl<R: Files + Input + Print + Eprint + Drop> Host for RealHost<R> {
-    ghost use Rattle.ib_base.specs.World.{silent};
+    ghost use Rattle.ib_base.specs.World.{silent, end_seen};
 
-    ghost world = { λ host. silent };
+    ghost world = { λ host. silent (end_seen host.ended) };
 
     ghost faults = { λ host. host.faults };
 

@@ -4,4 +4,4 @@ use Rattle.ib_base.proofs.real_host.RealHostHost.read_file.Goals as goal
 
 pub returns-clause-beginning : goal.returns-clause-beginning
 returns-clause-beginning g c =
-    rw c.counted.ensures.same (IfOk-weaker c.read_named-outcome.result _ _ (λ bytes bound. silent_begins _ _ _ bound) c.read_named-outcome.ensures)
+    rw c.counted.ensures.same (IfOk-weaker c.read_named-outcome.result _ _ (λ bytes bound. silent_begins _ _ _ _ bound) c.read_named-outcome.ensures)

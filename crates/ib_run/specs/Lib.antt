@@ -1,0 +1,2 @@
+pub mod OverHost
+pub mod Path

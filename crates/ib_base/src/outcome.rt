@@ -1,4 +1,6 @@
+use crate::host::HostErr;
 use ib_meaning::{FaultKind, Place};
+use std::alloc::{AllocError, AllocFailed};
 
 /// How a run of a program came out.
 #[derive(Clone, Copy, PartialEq, Eq, Debug)]
@@ -18,4 +20,40 @@ pub enum RunErr {
     Host,
     /// Memory was wanting.
     NoMemory,
+}
+
+impl From<HostErr> for RunErr {
+    ghost use Rattle.ib_base.specs.Cause.{run_err};
+    ghost use Rattle.std.specs.Prelude.{◌≡◌};
+
+    ghost from_gives = { λ error result. result ≡ run_err error };
+
+    fn from(error: HostErr) -> RunErr {
+        match error {
+            HostErr::Failed => RunErr::Host,
+            HostErr::NoMemory => RunErr::NoMemory,
+        }
+    }
+}
+
+impl From<AllocError> for RunErr {
+    ghost use Rattle.ib_base.specs.declared.outcome.RunErr.TheVariants.{NoMemory};
+    ghost use Rattle.std.specs.Prelude.{◌≡◌};
+
+    ghost from_gives = { λ error result. result ≡ NoMemory };
+
+    fn from(_error: AllocError) -> RunErr {
+        RunErr::NoMemory
+    }
+}
+
+impl<T: Drop> From<AllocFailed<T>> for RunErr {
+    ghost use Rattle.ib_base.specs.declared.outcome.RunErr.TheVariants.{NoMemory};
+    ghost use Rattle.std.specs.Prelude.{◌≡◌};
+
+    ghost from_gives = { λ error result. result ≡ NoMemory };
+
+    fn from(_error: AllocFailed<T>) -> RunErr {
+        RunErr::NoMemory
+    }
 }

@@ -1,2 +1,3 @@
 pub mod OverHost
 pub mod Paths
+pub mod Results

@@ -12,8 +12,8 @@ use Rattle.tac_core.specs.declared.code.End.{End}
 use Rattle.tac_core.specs.declared.code.End.TheVariants.{Jump, Branch, Call, Ret}
 use Rattle.tac_core.specs.declared.code.Block.{Block}
 use Rattle.tac_core.specs.declared.code.TacFunc.{TacFunc}
-use Rattle.tac_core.specs.Program.{Program, names, main_name}
-use Rattle.tac_core.specs.Meaning.{Here, Waiting, State, Lost, In, reg_of, number_in, block_of, frame_of, go, first_regs, call, overflows, target_of, set_in, place_of, Effect, Does, Fails, effect_of, after_act, do_return, do_call, do_end_of, do_end, tac_step, start_at, tac_meaning, number_of, first_frame, first_memory}
+use Rattle.tac_core.specs.Program.{Program, names, main_in}
+use Rattle.tac_core.specs.Meaning.{Here, Waiting, State, Lost, In, reg_of, number_in, block_of, frame_of, go, first_regs, call, overflows, target_of, set_in, place_of, Effect, Does, Fails, effect_of, after_act, do_return, do_call, do_end_of, do_end, tac_step, start_at, tac_meaning, first_frame, first_memory}
 use Rattle.tac_core.specs.Cover.{Origins, IsFrom, IsEndFrom, IsBlockFrom, IsFuncFrom, AreFuncsFrom, Covers}
 
 -- the origins of a function, none where the function is missing
@@ -165,7 +165,7 @@ module _ (all : List Origins) where
 pub covers_same : (all : List Origins) (copy origin : Program) → Covers all copy origin → AreSame (tac_meaning copy) (tac_meaning origin)
 unfolding tac_meaning
 covers_same all copy origin h =
-    rw (h.places, h.image, h.named) (means_from all copy.funcs origin.funcs origin.places h.funcs (number_of main_name (names origin)) origin.image)
+    rw (h.places, h.image, h.named) (means_from all copy.funcs origin.funcs origin.places h.funcs (main_in (names origin)) origin.image)
 
 pub covers_agree : (all : List Origins) (copy origin : Program) → Covers all copy origin → Agrees (tac_meaning origin) (tac_meaning copy)
 covers_agree all copy origin h =

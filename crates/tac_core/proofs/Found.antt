@@ -7,7 +7,7 @@ use Rattle.std.proofs.lemmas.List.Elements.{All-head, All-tail, All-map, All-nil
 use Rattle.std.proofs.lemmas.Bool.Decides.{nat_tests}
 use Rattle.std.proofs.lemmas.Bool.{cases_lt}
 use Rattle.tac_core.specs.declared.edges.Edge.{Edge}
-use Rattle.tac_core.specs.Counts.{is_before, Rise, edge_count, count_at, IsCount, AreCounts, no_counts}
+use Rattle.tac_core.specs.Counts.{is_before, Rise, edge_count, count_at, is_edge, IsCount, AreCounts, no_counts}
 use Rattle.tac_core.specs.declared.code.TacFunc.{TacFunc}
 use Rattle.tac_core.specs.declared.counts.FuncCounts.{FuncCounts}
 
@@ -62,3 +62,13 @@ none_counted f = record {
 
 pub all_none_counted : (counts : List FuncCounts) (fs : List TacFunc) → counts ≡ map no_counts fs → All AreCounts counts
 all_none_counted counts fs same = subst (All AreCounts) (sym same) (All-map AreCounts no_counts fs (λ k d lt. none_counted (get_or fs k d)))
+
+-- where the edges before (c, d) end, another edge stands or none does: so (c, d) is missing
+pub no_edge : (es : List Edge) (i c d : ℕ) → Rise es → AllWithin (λ e. is_before e.from e.to c d ≡ true) es 0 i → AllWithin (λ e. is_before e.from e.to c d ≡ false) es i (length es) → ((e : Edge) → slice_get es i ≡ Some e → is_edge c d e ≡ false) → (k : ℕ) (x : Edge) → k < length es → is_edge c d (get_or es k x) ≡ false
+no_edge [] i c d rise low high other k x lt = absurd (omega arith)
+no_edge (e ∷ es) zero c d rise low high other zero x lt = other e refl
+no_edge (e ∷ es) zero c d rise low high other (suc k) x lt =
+    behind e.from e.to (get_or es k x).from (get_or es k x).to c d (rise 0 (suc k) x (omega arith) lt) (high 0 e (omega arith) (omega arith))
+no_edge (e ∷ es) (suc i) c d rise low high other zero x lt = differs e.from e.to c d (low 0 e (omega arith) (omega arith))
+no_edge (e ∷ es) (suc i) c d rise low high other (suc k) x lt =
+    no_edge es i c d (rest_rise e es rise) (λ j y l h. low (suc j) y (omega arith) (omega arith)) (λ j y l h. high (suc j) y (omega arith) (omega arith)) other k x (omega arith)

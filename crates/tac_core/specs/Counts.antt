@@ -28,14 +28,18 @@ pub record AreCounts (c : FuncCounts) : Type 0 where
   pub taken : All (λ e. (0 < e.count) × IsCount e.count) c.edges
   pub rise : Rise c.edges
 
+-- it leads from a to b
+abbrev pub is_edge : (a b : ℕ) → Edge → Bool
+is_edge a b e = (e.from == a) && (e.to == b)
+
 abbrev pub edge_count : (a b : ℕ) → List Edge → ℕ
 edge_count a b [] = 0
-edge_count a b (e ∷ es) = if (e.from == a) && (e.to == b) then e.count else edge_count a b es
+edge_count a b (e ∷ es) = if is_edge a b e then e.count else edge_count a b es
 
 -- the count that an edge at some place gives
 abbrev pub count_at : (a b : ℕ) → Option Edge → ℕ
 count_at a b None = 0
-count_at a b (Some e) = if (e.from == a) && (e.to == b) then e.count else 0
+count_at a b (Some e) = if is_edge a b e then e.count else 0
 
 abbrev pub edges_of : Option FuncCounts → List Edge
 edges_of None = []

@@ -19,7 +19,7 @@ use Rattle.tac_core.specs.declared.code.End.TheVariants.{Jump, Branch, Call, Ret
 use Rattle.tac_core.specs.declared.code.Block.{Block}
 use Rattle.tac_core.specs.declared.code.TacFunc.{TacFunc}
 use Rattle.ib_act.specs.Acts.{target, first_source, second_source, given, address, bytes_in}
-use Rattle.tac_core.specs.Program.{Program, main_name, names}
+use Rattle.tac_core.specs.Program.{Program, main_of}
 
 -- what an operation does to the registers, the memory, the input that is left and the output
 pub data Effect : Type 0 where
@@ -175,16 +175,6 @@ abbrev pub tac_step : List TacFunc → List Place → Machine State
 tac_step funcs places Lost left = Goes Lost left []
 tac_step funcs places (In here waiting memory) left = do_next here.ops funcs places here waiting memory left
 
-abbrev pub is_same : List ℕ → List ℕ → Bool
-is_same [] [] = true
-is_same (x ∷ xs) (y ∷ ys) = elim (nat_lt x y) [ true ↦ false | false ↦ elim (nat_lt y x) [ true ↦ false | false ↦ is_same xs ys ] ]
-is_same _ _ = false
-
--- the number of the first function with this name
-abbrev pub number_of : List ℕ → List (List ℕ) → ℕ
-number_of name [] = 0
-number_of name (x ∷ xs) = if is_same name x then 0 else suc (number_of name xs)
-
 -- where the first frame starts: behind the image, at a multiple of 16
 abbrev pub first_frame : (image : ℕ) → ℕ
 first_frame image = 4096 + 16 * ((image + 15) / 16)
@@ -197,4 +187,4 @@ start_at funcs func image = call funcs func (first_frame (length image)) [] [] (
 
 -- the meaning of a three-address program
 unfoldable pub tac_meaning : Program → Meaning
-tac_meaning p = means (tac_step p.funcs p.places) (start_at p.funcs (number_of main_name (names p)) p.image)
+tac_meaning p = means (tac_step p.funcs p.places) (start_at p.funcs (main_of p) p.image)

@@ -1,5 +1,5 @@
 -- A three-address program as contracts see it.
-use Rattle.std.specs.Prelude.{ℕ, suc, ◌+◌, List, [], ◌∷◌, length, min, codes, map}
+use Rattle.std.specs.Prelude.{ℕ, suc, ◌+◌, List, [], ◌∷◌, length, min, codes, map, bytes_eq, if◌then◌else◌}
 use Rattle.std.specs.List.{sum_by}
 use Rattle.ib_meaning.specs.declared.place.Place.{Place}
 use Rattle.tac_core.specs.declared.code.Block.{Block}
@@ -16,6 +16,14 @@ main_name = codes "main"
 
 abbrev pub names : Program → List (List ℕ)
 names p = map (λ f. f.name) p.funcs
+
+-- the number of the first name that is `main`
+abbrev pub main_in : List (List ℕ) → ℕ
+main_in [] = 0
+main_in (name ∷ names) = if bytes_eq main_name name then 0 else suc (main_in names)
+
+abbrev pub main_of : Program → ℕ
+main_of p = main_in (names p)
 
 -- the operations of a block, its end included
 abbrev pub block_ops : Block → ℕ

@@ -1,8 +1,8 @@
-ghost use Rattle.std.specs.Prelude.{◌≡◌, true, false, length, ◌↔◌, IsTrue, slice_get};
+ghost use Rattle.std.specs.Prelude.{◌≡◌, true, false, length, ◌↔◌, IsTrue, IsSomeAnd, MatchOption, slice_get};
 ghost use Rattle.std.specs.Option.{option_copied};
 ghost use Rattle.std.specs.List.{All};
 ghost use Rattle.std.specs.List.Sorted.{IsPartitionedBy, IsPartitionPoint};
-ghost use Rattle.tac_core.specs.Counts.{is_before, Rise, edge_count, count_at, IsTargetOf, HasEdge, HasEdges};
+ghost use Rattle.tac_core.specs.Counts.{is_before, Rise, edge_count, count_at, is_edge, IsTargetOf, HasEdge, HasEdges};
 
 use crate::code::{End, TacFunc};
 
@@ -26,6 +26,30 @@ fn place_of(edges: &[Edge], from: u32, to: u32) -> usize
     ensures { IsPartitionPoint (λ e. is_before e.from e.to from to ≡ true) (λ e. is_before e.from e.to from to ≡ false) edges.now result }
 {
     edges.partition_point(|edge| comes_before(edge, from, to))
+}
+
+fn is_edge(edge: &Edge, from: u32, to: u32) -> bool
+    ensures { result ≡ is_edge from to edge.now }
+{
+    edge.from == from && edge.to == to
+}
+
+/// Where an edge stands among edges that rise.
+pub fn find_edge(edges: &[Edge], from: u32, to: u32) -> Option<usize>
+    requires { Rise edges.now }
+    ensures { MatchOption result (All (λ e. is_edge from to e ≡ false) edges.now) (λ at. IsSomeAnd (slice_get edges.now at) (λ e. is_edge from to e ≡ true)) }
+{
+    let at = place_of(edges, from, to);
+    match sqlite_items::at(edges, at) {
+        None => None,
+        Some(edge) => {
+            if is_edge(edge, from, to) {
+                Some(at)
+            } else {
+                None
+            }
+        }
+    }
 }
 
 fn count_of(edge: Option<&Edge>, from: u32, to: u32) -> u64

@@ -24,7 +24,7 @@ pub use chain::{Chain, Traces};
 pub use code::{Block, End, TacFunc, TacOp};
 pub use copied::Copied;
 pub use counts::{Counts, FuncCounts};
-pub use edges::Edge;
+pub use edges::{Edge, find_edge};
 pub use formed::Formed;
 pub use ib_act::{Act, Size};
 pub use live::Live;

@@ -1,7 +1,7 @@
 use crate::code::TacFunc;
 use crate::copies::copy_funcs;
 use crate::count::with_func_ops;
-use crate::shape::keeps_rules;
+use crate::shape::{is_named_main, keeps_rules};
 use ib_base::Place;
 use sqlite_items::Items;
 use std::alloc::{AllocError, Global};
@@ -27,8 +27,8 @@ impl Model for TacProgram {
 }
 
 impl TacProgram {
-    ghost use Rattle.std.specs.Prelude.{◌≡◌, IfOk, MatchOption};
-    ghost use Rattle.tac_core.specs.Program.{Program, capped, program_ops};
+    ghost use Rattle.std.specs.Prelude.{◌≡◌, ◌<◌, IfOk, MatchOption, length};
+    ghost use Rattle.tac_core.specs.Program.{Program, main_of, capped, program_ops};
     ghost use Rattle.tac_core.specs.Rules.{IsValid};
 
     /// The program of these parts, or `None` where they break a rule.
@@ -52,6 +52,19 @@ impl TacProgram {
         ensures valid { IsValid self.now }
     {
         self.funcs.as_slice()
+    }
+
+    /// The number of `main`.
+    pub fn main(&self) -> usize
+        ensures is { result ≡ main_of self.now }
+        ensures there { result < length self.now.funcs }
+    {
+        for (i, func) in self.funcs().iter().enumerate() {
+            if is_named_main(func) {
+                return i;
+            }
+        }
+        unreachable!()
     }
 
     /// The statements' places.

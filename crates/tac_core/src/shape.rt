@@ -1,4 +1,5 @@
-ghost use Rattle.std.specs.Prelude.{◌≡◌, ◌≢◌, ◌<◌, ◌≤◌, ◌||◌, ◌↔◌, IsTrue, length};
+ghost use Rattle.std.specs.Prelude.{◌≡◌, ◌≢◌, ◌<◌, ◌≤◌, ◌||◌, ◌↔◌, IsTrue, bytes_eq, length};
+ghost use Rattle.tac_core.specs.Program.{main_name};
 ghost use Rattle.std.specs.List.{All, Any};
 ghost use Rattle.tac_core.specs.Rules.{is_letter, is_digit, IsName, IsGoodBlock, AreDistinct, IsGoodFunc, NamesDiffer, IsMain, KeepsRules};
 
@@ -117,6 +118,12 @@ fn names_differ(funcs: &[TacFunc]) -> bool
         }
     }
     true
+}
+
+pub fn is_named_main(func: &TacFunc) -> bool
+    ensures { result ≡ bytes_eq main_name func.now.name }
+{
+    "main".as_bytes() == func.name.as_bytes()
 }
 
 fn is_main(func: &TacFunc) -> bool

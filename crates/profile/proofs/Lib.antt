@@ -1,0 +1,9 @@
+pub mod Doings
+pub mod Inputs
+pub mod Tables
+pub mod Sounds
+pub mod Parts
+pub mod Tallied
+pub mod Counted
+pub mod Finals
+pub mod Walks

@@ -1,5 +1,6 @@
 -- Classes of bytes.
-use Rattle.std.specs.Prelude.{ℕ, Bool, ◌==◌, ◌&&◌, ◌||◌, nat_le}
+use Rattle.std.specs.Prelude.{ℕ, Bool, ◌==◌, ◌&&◌, ◌||◌, nat_le, nat_lt}
+use Rattle.std.specs.Char.{digit_value}
 
 abbrev pub is_blank : ℕ → Bool
 is_blank b = (b == 32) || (nat_le 9 b && nat_le b 13)
@@ -7,11 +8,9 @@ is_blank b = (b == 32) || (nat_le 9 b && nat_le b 13)
 abbrev pub is_digit : ℕ → Bool
 is_digit b = nat_le 48 b && nat_le b 57
 
-abbrev pub is_octal_digit : ℕ → Bool
-is_octal_digit b = nat_le 48 b && nat_le b 55
-
-abbrev pub is_hex_digit : ℕ → Bool
-is_hex_digit b = is_digit b || (nat_le 65 b && nat_le b 70) || (nat_le 97 b && nat_le b 102)
+-- a digit of a base; above 9 a letter of either case
+abbrev pub is_digit_in : ℕ → ℕ → Bool
+is_digit_in base b = nat_lt (digit_value b) base
 
 abbrev pub is_capital : ℕ → Bool
 is_capital b = nat_le 65 b && nat_le b 90

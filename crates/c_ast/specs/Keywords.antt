@@ -1,5 +1,6 @@
--- The keywords, one variant a spelling.
-use Rattle.std.specs.Prelude.{ℕ, List, codes}
+-- The keywords, one variant a spelling, and the words that are reserved beside them.
+use Rattle.std.specs.Prelude.{ℕ, List, [], ◌∷◌, codes, bytes_eq, Option}
+use Rattle.std.specs.List.{find}
 use Rattle.c_ast.specs.declared.keyword.Keyword.{Keyword}
 use Rattle.c_ast.specs.declared.keyword.Keyword.TheVariants as keyword
 
@@ -34,3 +35,19 @@ keyword_number keyword.Void = 10
 keyword_number keyword.While = 11
 keyword_number keyword.Null = 12
 keyword_number keyword.Eof = 13
+
+abbrev pub all_keywords : List Keyword
+all_keywords =
+    keyword.Break ∷ keyword.Char ∷ keyword.Continue ∷ keyword.Do ∷ keyword.Else ∷ keyword.For ∷ keyword.If
+    ∷ keyword.Int ∷ keyword.Long ∷ keyword.Return ∷ keyword.Void ∷ keyword.While ∷ keyword.Null ∷ keyword.Eof ∷ []
+
+-- the keyword with this spelling
+unfoldable pub keyword_spelled : List ℕ → Option Keyword
+keyword_spelled bs = find (λ k. bytes_eq (keyword_spelling k) bs) all_keywords
+
+unfoldable pub reserved_words : List (List ℕ)
+reserved_words =
+    codes "auto" ∷ codes "case" ∷ codes "const" ∷ codes "default" ∷ codes "double" ∷ codes "enum" ∷ codes "extern"
+    ∷ codes "float" ∷ codes "goto" ∷ codes "inline" ∷ codes "register" ∷ codes "restrict" ∷ codes "short" ∷ codes "signed"
+    ∷ codes "sizeof" ∷ codes "static" ∷ codes "struct" ∷ codes "switch" ∷ codes "typedef" ∷ codes "union"
+    ∷ codes "unsigned" ∷ codes "volatile" ∷ []

@@ -1,5 +1,6 @@
 -- The marks, one variant a spelling.
-use Rattle.std.specs.Prelude.{ℕ, List, codes}
+use Rattle.std.specs.Prelude.{ℕ, List, [], ◌∷◌, codes, bytes_eq, Option}
+use Rattle.std.specs.List.{find}
 use Rattle.c_ast.specs.declared.mark.Mark.{Mark}
 use Rattle.c_ast.specs.declared.mark.Mark.TheVariants as mark
 
@@ -92,3 +93,17 @@ mark_number mark.Not = 39
 mark_number mark.BitNot = 40
 mark_number mark.Increment = 41
 mark_number mark.Decrement = 42
+
+abbrev pub all_marks : List Mark
+all_marks =
+    mark.LeftParen ∷ mark.RightParen ∷ mark.LeftBracket ∷ mark.RightBracket ∷ mark.LeftBrace ∷ mark.RightBrace ∷ mark.Comma
+    ∷ mark.Semicolon ∷ mark.Question ∷ mark.Colon ∷ mark.Assign ∷ mark.AddAssign ∷ mark.SubAssign ∷ mark.MulAssign
+    ∷ mark.DivAssign ∷ mark.RemAssign ∷ mark.ShiftLeftAssign ∷ mark.ShiftRightAssign ∷ mark.BitAndAssign ∷ mark.BitXorAssign ∷ mark.BitOrAssign
+    ∷ mark.Or ∷ mark.And ∷ mark.BitOr ∷ mark.BitXor ∷ mark.BitAnd ∷ mark.Equal ∷ mark.NotEqual
+    ∷ mark.Less ∷ mark.LessEqual ∷ mark.Greater ∷ mark.GreaterEqual ∷ mark.ShiftLeft ∷ mark.ShiftRight ∷ mark.Plus
+    ∷ mark.Minus ∷ mark.Star ∷ mark.Slash ∷ mark.Percent ∷ mark.Not ∷ mark.BitNot ∷ mark.Increment
+    ∷ mark.Decrement ∷ []
+
+-- the mark with this spelling
+unfoldable pub mark_spelled : List ℕ → Option Mark
+mark_spelled bs = find (λ m. bytes_eq (mark_spelling m) bs) all_marks

@@ -1,5 +1,5 @@
 ghost use Rattle.std.specs.Prelude.{◌≡◌};
-ghost use Rattle.c_ast.specs.Keywords.{keyword_spelling, keyword_number};
+ghost use Rattle.c_ast.specs.Keywords.{keyword_spelling, keyword_number, keyword_spelled};
 
 /// The keywords, one variant a spelling.
 #[derive(Clone, Copy)]
@@ -20,7 +20,36 @@ pub enum Keyword {
     Eof,
 }
 
+/// All keywords.
+const KEYWORDS: [Keyword; 14] = [
+    Keyword::Break,
+    Keyword::Char,
+    Keyword::Continue,
+    Keyword::Do,
+    Keyword::Else,
+    Keyword::For,
+    Keyword::If,
+    Keyword::Int,
+    Keyword::Long,
+    Keyword::Return,
+    Keyword::Void,
+    Keyword::While,
+    Keyword::Null,
+    Keyword::Eof,
+];
+
 impl Keyword {
+    /// The keyword with this spelling.
+    #[tactic(auto, unfolding(crate::specs::Keywords::keyword_spelled))]
+    pub fn spelled(bytes: &[u8]) -> Option<Keyword>
+        ensures { result ≡ keyword_spelled bytes.now }
+    {
+        KEYWORDS
+            .iter()
+            .copied()
+            .find(|keyword| keyword.spelling().as_bytes() == bytes)
+    }
+
     pub fn spelling(self) -> &'static str
         ensures { result.now ≡ keyword_spelling self }
     {

@@ -52,7 +52,7 @@ letter_escape c =
 
 -- how many digits an escape takes: all that it may, octal ones up to three
 abbrev pub octal_len : List ℕ → ℕ
-octal_len bs = min 3 (prefix_len (is_digit_in 8) bs)
+octal_len bs = min (prefix_len (is_digit_in 8) bs) 3
 
 abbrev pub hexadecimal_len : List ℕ → ℕ
 hexadecimal_len bs = prefix_len (is_digit_in 16) bs

@@ -1,0 +1,10 @@
+mod Lists
+mod Numbers
+mod Elements
+mod Quotes
+mod Runs
+mod MarkLemmas
+mod Longest
+mod Stands
+mod Cutting
+mod LexingLemmas

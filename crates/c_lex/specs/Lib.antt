@@ -1,0 +1,3 @@
+pub mod First
+pub mod Lexing
+pub mod Lexed

@@ -1,0 +1,38 @@
+ghost use Rattle.std.specs.Prelude.{◌≡◌};
+ghost use Rattle.c_lex.specs.Lexing.{refusal};
+
+use c_ast::LexFault;
+use ib_base::Place;
+use std::alloc::AllocError;
+
+/// Why a source has no tokens, and where the first part of it stands that is none.
+#[derive(Clone, Copy, PartialEq, Eq, Debug)]
+pub enum LexErr {
+    BadByte(Place),
+    OpenComment(Place),
+    BadLiteral(Place),
+    NoMemory,
+}
+
+impl LexErr {
+    pub fn new(fault: LexFault, place: Place) -> LexErr
+        ensures { result ≡ refusal fault place }
+    {
+        match fault {
+            LexFault::BadByte => LexErr::BadByte(place),
+            LexFault::OpenComment => LexErr::OpenComment(place),
+            LexFault::BadLiteral => LexErr::BadLiteral(place),
+        }
+    }
+}
+
+impl From<AllocError> for LexErr {
+    ghost use Rattle.c_lex.specs.declared.error.LexErr.TheVariants.{NoMemory};
+    ghost use Rattle.std.specs.Prelude.{◌≡◌};
+
+    ghost from_gives = { λ e r. r ≡ NoMemory };
+
+    fn from(_e: AllocError) -> LexErr {
+        LexErr::NoMemory
+    }
+}

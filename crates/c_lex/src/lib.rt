@@ -1,0 +1,15 @@
+//! The lexer: a source's bytes in, its tokens out.
+#![tactic(auto)]
+
+mod bytes;
+mod error;
+mod found;
+mod gaps;
+mod lexer;
+mod number;
+mod quoted;
+mod source;
+mod words;
+
+pub use error::LexErr;
+pub use source::lex;

@@ -9,6 +9,8 @@ mod lexer;
 mod number;
 mod quoted;
 mod source;
+#[cfg(test)]
+mod tests;
 mod words;
 
 pub use error::LexErr;

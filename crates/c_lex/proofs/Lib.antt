@@ -8,3 +8,4 @@ mod Longest
 mod Stands
 mod Cutting
 mod LexingLemmas
+pub mod Unique

@@ -4,7 +4,7 @@ use Rattle.wide_core.specs.declared.code.WideAct.{WideAct}
 use Rattle.first_code.specs.declared.maker.CodeMaker.{CodeMaker}
 use Rattle.first_form.specs.declared.program.Program.{Program}
 use Rattle.first_form.specs.declared.program.Stmt.{Stmt}
-use Rattle.first_form.specs.declared.word.Word.{Word as Spelling}
+use Rattle.first_form.specs.declared.kind.Word.{Word as Spelling}
 use Rattle.first_form.specs.FirstForm.{AreProgram}
 use Rattle.first_code.specs.Code.{words_of, body_words, body_slot, declared_after}
 
@@ -33,7 +33,7 @@ abbrev pub DeclaresFew : ℕ → ℕ → List Stmt → Type 0
 DeclaresFew most declared [] = declared ≤ most
 DeclaresFew most declared (stmt ∷ rest) = DeclaresFew most (declared_after declared stmt) rest
 
--- a program that few words spell
+-- a program that few tokens spell
 pub record IsShort (program : Program) : Type 0 where
   pub words : List Spelling
   pub few : length words ≤ 65536

@@ -1,4 +1,5 @@
 use crate::make;
+use c_lex::lex;
 use first_form::read;
 use std::alloc::Global;
 use std::test::Fail;
@@ -8,7 +9,10 @@ fn counts(alloc: Global, source: &[u8]) -> Option<(usize, u32)> {
     if 1048576 < source.len() {
         return None;
     }
-    let Ok(program) = read(alloc, source) else {
+    let Ok(tokens) = lex(alloc, source) else {
+        return None;
+    };
+    let Ok(program) = read(alloc, source, tokens.as_slice()) else {
         return None;
     };
     let Ok(code) = make(alloc, &program) else {

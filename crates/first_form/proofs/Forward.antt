@@ -1,6 +1,5 @@
 -- What the words that are left have to be, behind the first of them.
-use Rattle.std.proofs.Common.{◌≡◌, ℕ, Bool, false, List, [], ◌∷◌, ◌++◌, length, ap, sym, ◌∙◌, subst, cond, bytes_eq, position, Option, Some, None, append-nil}
-use Rattle.std.specs.Prelude.{codes}
+use Rattle.std.proofs.Common.{◌≡◌, ℕ, Bool, false, List, [], ◌∷◌, ◌++◌, length, ap, sym, ◌∙◌, subst, cond, bytes_eq, Option, Some, None, append-nil}
 use Rattle.std.specs.List.{list_any}
 use Rattle.std.specs.Option.{option_map}
 use Rattle.ib_meaning.specs.declared.place.Place.{Place}
@@ -17,9 +16,9 @@ use Rattle.first_form.specs.declared.program.Sum.{Sum}
 use Rattle.first_form.specs.declared.program.Stmt.{Stmt}
 use Rattle.first_form.specs.declared.program.Stmt.TheVariants as stmt
 use Rattle.first_form.specs.declared.program.Program.{Program}
-use Rattle.first_form.specs.declared.word.Word.{Word}
-use Rattle.first_form.specs.declared.word.Kind.{Kind}
-use Rattle.first_form.specs.declared.word.Kind.TheVariants as kind
+use Rattle.first_form.specs.declared.kind.Word.{Word}
+use Rattle.first_form.specs.declared.kind.Kind.{Kind}
+use Rattle.first_form.specs.declared.kind.Kind.TheVariants as kind
 use Rattle.first_form.specs.declared.reader.Reader.{Reader}
 use Rattle.first_form.specs.declared.reader.Wait.{Wait}
 use Rattle.first_form.specs.declared.reader.Wait.TheVariants as wait
@@ -32,40 +31,35 @@ use Rattle.first_form.specs.declared.reader.Lead.{Lead}
 use Rattle.first_form.specs.declared.reader.Lead.TheVariants as lead
 use Rattle.first_form.specs.declared.reader.Slot.{Slot}
 use Rattle.first_form.specs.declared.reader.Slot.TheVariants as slot
-use Rattle.first_form.specs.Kinds.{kind_of}
-use Rattle.first_form.specs.Spelled.{Spellings, name_at, sum_mark, term_mark, factor_before, multipliers_before, addends_before, sum_before, Begins}
+use Rattle.first_form.specs.Spelled.{Names, Kinds, name_at, sum_mark, term_mark, factor_before, multipliers_before, addends_before, sum_before, Begins}
 use Rattle.first_form.specs.FirstForm.{IsFactor, AreMultipliers, AreAddends, IsSum, IsValue, AreStatements, value_before}
 use Rattle.first_form.specs.Reading.{joined, behind_factor, waiting, with_declaration, step_at, step}
 use Rattle.first_form.specs.Left.{AreVariables, LeftOfBody, close, Closes, extended, lengthened, LeftOfSum, lead_of, term_with, LeftOfFactor, LeftOfDeclaration, LeftOfHeader, purpose_of, LeftAt, Left, LeftOf}
-use Rattle.first_form.proofs.KindLemmas.{kind_of-name, kind_of-number}
-use Rattle.first_form.proofs.StepLemmas.{is_int, is_void, is_return, is_main, is_putint, is_left_paren, is_right_paren, is_left_brace, is_right_brace, is_semicolon, is_equals, is_plus, is_minus, is_star, is_slash, nothing_more, factor_more, addend_more, behind_left, name_more, stmt_more}
+use Rattle.first_form.proofs.StepLemmas.{nothing_more, factor_more, addend_more, behind_left, name_more, stmt_more}
 
-module _ (names : Spellings) (body : List Stmt) (word : Word) (words : List Word) (program : Program) where
+module _ (names : Names) (body : List Stmt) (word : Word) (words : List Word) (program : Program) where
   -- the kind of the word is known
   by_kind : (w : Wait) (k : Kind) →
-      kind_of word.bytes ≡ k → LeftOf (step_at w names body word k) words program → LeftOf (step_at w names body word (kind_of word.bytes)) words program
+      word.kind ≡ k → LeftOf (step_at w names body word.place k) words program → LeftOf (step_at w names body word.place word.kind) words program
   by_kind w k e h =
-      subst (λ (j : Kind). LeftOf (step_at w names body word j) words program) (sym e) h
-
-  spelled : {bs : List ℕ} {k : Kind} → word.bytes ≡ bs → kind_of bs ≡ k → kind_of word.bytes ≡ k
-  spelled e q = ap kind_of e ∙ q
+      subst (λ (j : Kind). LeftOf (step_at w names body word.place j) words program) (sym e) h
 
   at_header : (h : Header) →
-      LeftOfHeader names body h (word ∷ words) program → LeftOf (step_at (wait.Header h) names body word (kind_of word.bytes)) words program
-  at_header header.Int l = by_kind (wait.Header header.Int) kind.Int (spelled l.begins.0 is_int) (record { rest = l.rest; begins = l.begins.1; follows = l.follows })
-  at_header header.Main l = by_kind (wait.Header header.Main) kind.Main (spelled l.begins.0 is_main) (record { rest = l.rest; begins = l.begins.1; follows = l.follows })
-  at_header header.LeftParen l = by_kind (wait.Header header.LeftParen) kind.LeftParen (spelled l.begins.0 is_left_paren) (record { rest = l.rest; begins = l.begins.1; follows = l.follows })
-  at_header header.Void l = by_kind (wait.Header header.Void) kind.Void (spelled l.begins.0 is_void) (record { rest = l.rest; begins = l.begins.1; follows = l.follows })
-  at_header header.RightParen l = by_kind (wait.Header header.RightParen) kind.RightParen (spelled l.begins.0 is_right_paren) (record { rest = l.rest; begins = l.begins.1; follows = l.follows })
+      LeftOfHeader names body h (word ∷ words) program → LeftOf (step_at (wait.Header h) names body word.place word.kind) words program
+  at_header header.Int l = by_kind (wait.Header header.Int) kind.Int l.begins.0 (record { rest = l.rest; begins = l.begins.1; follows = l.follows })
+  at_header header.Main l = by_kind (wait.Header header.Main) kind.Main l.begins.0 (record { rest = l.rest; begins = l.begins.1; follows = l.follows })
+  at_header header.LeftParen l = by_kind (wait.Header header.LeftParen) kind.LeftParen l.begins.0 (record { rest = l.rest; begins = l.begins.1; follows = l.follows })
+  at_header header.Void l = by_kind (wait.Header header.Void) kind.Void l.begins.0 (record { rest = l.rest; begins = l.begins.1; follows = l.follows })
+  at_header header.RightParen l = by_kind (wait.Header header.RightParen) kind.RightParen l.begins.0 (record { rest = l.rest; begins = l.begins.1; follows = l.follows })
   at_header header.LeftBrace l =
-      by_kind (wait.Header header.LeftBrace) kind.LeftBrace (spelled l.begins.0 is_left_brace) (subst (λ (ws : List Word). LeftOfBody names body ws program) (sym l.begins.1) l.follows)
+      by_kind (wait.Header header.LeftBrace) kind.LeftBrace l.begins.0 (subst (λ (ws : List Word). LeftOfBody names body ws program) (sym l.begins.1) l.follows)
 
   -- a statement's first word
   program_is : program.names ≡ names → program.body ≡ body → program ≡ record { names = names; body = body }
-  program_is e q = ap (λ (ns : Spellings). record { names = ns; body = program.body }) e ∙ ap (λ (b : List Stmt). record { names = names; body = b }) q
+  program_is e q = ap (λ (ns : Names). record { names = ns; body = program.body }) e ∙ ap (λ (b : List Stmt). record { names = names; body = b }) q
 
   -- a sum as its first factor and what follows
-  sum_left : (p : Purpose) (s : Sum) (head : Spellings → Spellings) (rest : List Word) →
+  sum_left : (p : Purpose) (s : Sum) (head : Kinds → Kinds) (rest : List Word) →
       IsSum (length names) s → Begins (head (sum_before names s (close p.target))) words rest → Closes names body p.place p.target s rest program →
       LeftOfFactor names body p (slot.Term lead.First) head words program
   sum_left p s head rest i b c = record {
@@ -78,44 +72,43 @@ module _ (names : Spellings) (body : List Stmt) (word : Word) (words : List Word
   at_place P e h = subst P (sym e) h
 
   statement_goes : AreVariables names →
-      (later : Spellings) (more : List Stmt) → program.names ≡ names ++ later → program.body ≡ body ++ more → AreStatements names later more (word ∷ words) →
-      LeftOf (step_at wait.Statement names body word (kind_of word.bytes)) words program
+      (later : Names) (more : List Stmt) → program.names ≡ names ++ later → program.body ≡ body ++ more → AreStatements names later more (word ∷ words) →
+      LeftOf (step_at wait.Statement names body word.place word.kind) words program
   statement_goes vs later [] n b h =
-      by_kind wait.Statement kind.RightBrace (spelled h.1.0 is_right_brace)
-      (h.1.1, program_is (n ∙ ap (λ (l : Spellings). names ++ l) h.0 ∙ append-nil names) (b ∙ append-nil body))
+      by_kind wait.Statement kind.RightBrace h.1.0
+      (h.1.1, program_is (n ∙ ap (λ (l : Names). names ++ l) h.0 ∙ append-nil names) (b ∙ append-nil body))
   statement_goes vs later (stmt.Declare place value ∷ more) n b (name, next, rest, e, new, i, at, begins, follow) =
-      by_kind wait.Statement kind.Int (spelled begins.0 is_int) (record {
+      by_kind wait.Statement kind.Int begins.0 (record {
         name = name;
-        free = new.0;
         declaration = record {
           value = value;
           rest = rest;
-          fresh = new.1;
+          fresh = new;
           is_value = i;
           begins = begins.1;
           follows = at_place (λ (q : Place). LeftOfBody (names ++ name ∷ []) (body ++ stmt.Declare q value ∷ []) rest program) at (record {
             later = next;
             more = more;
-            names_are = n ∙ ap (λ (l : Spellings). names ++ l) e ∙ name_more names name next;
+            names_are = n ∙ ap (λ (l : Names). names ++ l) e ∙ name_more names name next;
             body_is = b ∙ stmt_more body (stmt.Declare place value) more;
             statements = follow;
           });
         };
       })
   statement_goes vs later (stmt.Assign place v s ∷ more) n b (rest, less, i, at, begins, follow) =
-      by_kind wait.Statement kind.Name (spelled begins.0 (kind_of-name (name_at names v) (vs.free v less)))
+      by_kind wait.Statement (kind.Name (name_at names v)) begins.0
       (subst (λ (o : Option ℕ). LeftOf (option_map (waiting names body) (option_map (λ u. wait.Equals word.place u) o)) words program)
-      (sym (ap (λ (bs : List ℕ). position (bytes_eq bs) names) begins.0 ∙ vs.found v less))
-      (at_place (λ (q : Place). LeftOfFactor names body (purpose_of q (target.Assign v)) (slot.Term lead.First) (λ follow. codes "=" ∷ follow) words program) at
-      (sum_left (purpose_of place (target.Assign v)) s (λ follow. codes "=" ∷ follow) rest i begins.1
+      (sym (vs.found v less))
+      (at_place (λ (q : Place). LeftOfFactor names body (purpose_of q (target.Assign v)) (slot.Term lead.First) (λ follow. kind.Equals ∷ follow) words program) at
+      (sum_left (purpose_of place (target.Assign v)) s (λ follow. kind.Equals ∷ follow) rest i begins.1
       (record { later = later; more = more; names_are = n; body_is = b ∙ stmt_more body (stmt.Assign place v s) more; statements = follow }))))
   statement_goes vs later (stmt.Print place s ∷ more) n b (rest, i, at, begins, follow) =
-      by_kind wait.Statement kind.Putint (spelled begins.0 is_putint)
-      (at_place (λ (q : Place). LeftOfFactor names body (purpose_of q target.Print) (slot.Term lead.First) (λ follow. codes "(" ∷ follow) words program) at
-      (sum_left (purpose_of place target.Print) s (λ follow. codes "(" ∷ follow) rest i begins.1
+      by_kind wait.Statement kind.Putint begins.0
+      (at_place (λ (q : Place). LeftOfFactor names body (purpose_of q target.Print) (slot.Term lead.First) (λ follow. kind.LeftParen ∷ follow) words program) at
+      (sum_left (purpose_of place target.Print) s (λ follow. kind.LeftParen ∷ follow) rest i begins.1
       (record { later = later; more = more; names_are = n; body_is = b ∙ stmt_more body (stmt.Print place s) more; statements = follow })))
   statement_goes vs later (stmt.Return place s ∷ more) n b (rest, i, at, begins, follow) =
-      by_kind wait.Statement kind.Return (spelled begins.0 is_return)
+      by_kind wait.Statement kind.Return begins.0
       (at_place (λ (q : Place). LeftOfFactor names body (purpose_of q target.Return) (slot.Term lead.First) (λ follow. follow) words program) at
       (sum_left (purpose_of place target.Return) s (λ follow. follow) rest i begins.1
       (record { later = later; more = more; names_are = n; body_is = b ∙ stmt_more body (stmt.Return place s) more; statements = follow })))
@@ -129,28 +122,28 @@ module _ (names : Spellings) (body : List Stmt) (word : Word) (words : List Word
   initial_goes : (place : Place) (name : List ℕ) (value : Option Sum) (rest : List Word) →
       list_any (bytes_eq name) names ≡ false → IsValue (length names) value → Begins (value_before names value) (word ∷ words) rest →
       LeftOfBody (names ++ name ∷ []) (body ++ stmt.Declare place value ∷ []) rest program →
-      LeftOf (step_at (wait.Initial place name) names body word (kind_of word.bytes)) words program
+      LeftOf (step_at (wait.Initial place name) names body word.place word.kind) words program
   initial_goes place name None rest fresh i begins follows =
-      by_kind (wait.Initial place name) kind.Semicolon (spelled begins.0 is_semicolon)
+      by_kind (wait.Initial place name) kind.Semicolon begins.0
       (declared name (stmt.Declare place None) fresh (subst (λ (ws : List Word). LeftOfBody (names ++ name ∷ []) (body ++ stmt.Declare place None ∷ []) ws program) (sym begins.1) follows))
   initial_goes place name (Some s) rest fresh i begins follows =
-      by_kind (wait.Initial place name) kind.Equals (spelled begins.0 is_equals)
+      by_kind (wait.Initial place name) kind.Equals begins.0
       (sum_left (purpose_of place (target.Declare name)) s (λ follow. follow) rest i begins.1 (fresh, follows))
 
   -- a factor
   factor_goes : AreVariables names → (p : Purpose) (s : Slot) (f : Factor) → IsFactor (length names) f →
       LeftOfSum names body p (lead_of s) (term_with s f) (λ follow. factor_before names f follow) (word ∷ words) program →
-      LeftOf (step_at (wait.Factor p s) names body word (kind_of word.bytes)) words program
+      LeftOf (step_at (wait.Factor p s) names body word.place word.kind) words program
   factor_goes vs p s (factor.Variable v) less l =
-      by_kind (wait.Factor p s) kind.Name (spelled l.begins.0 (kind_of-name (name_at names v) (vs.free v less)))
+      by_kind (wait.Factor p s) (kind.Name (name_at names v)) l.begins.0
       (subst (λ (o : Option ℕ). LeftOf (option_map (waiting names body) (option_map (behind_factor p s) (option_map factor.Variable o))) words program)
-      (sym (ap (λ (bs : List ℕ). position (bytes_eq bs) names) l.begins.0 ∙ vs.found v less))
+      (sym (vs.found v less))
       (behind_left p s (factor.Variable v) (record { multipliers = l.multipliers; addends = l.addends; rest = l.rest; are_multipliers = l.are_multipliers; are_addends = l.are_addends; begins = l.begins.1; closes = l.closes })))
   factor_goes vs p s (factor.Number n) small l =
-      by_kind (wait.Factor p s) (kind.Number n) (spelled l.begins.0 (kind_of-number n small))
+      by_kind (wait.Factor p s) (kind.Number n) l.begins.0
       (behind_left p s (factor.Number n) (record { multipliers = l.multipliers; addends = l.addends; rest = l.rest; are_multipliers = l.are_multipliers; are_addends = l.are_addends; begins = l.begins.1; closes = l.closes }))
   factor_goes vs p s (factor.Negative n) small l =
-      by_kind (wait.Factor p s) kind.Minus (spelled l.begins.0 is_minus) (record {
+      by_kind (wait.Factor p s) kind.Minus l.begins.0 (record {
         number = n;
         small = small;
         sum = record { multipliers = l.multipliers; addends = l.addends; rest = l.rest; are_multipliers = l.are_multipliers; are_addends = l.are_addends; begins = l.begins.1; closes = l.closes };
@@ -159,18 +152,18 @@ module _ (names : Spellings) (body : List Stmt) (word : Word) (words : List Word
   -- the end of a sum
   end_goes : (place : Place) (t : Target) (l : Lead) (tm : Term) (rest : List Word) →
       Begins (close t) (word ∷ words) rest → Closes names body place t (joined l tm) rest program →
-      LeftOf (step_at (wait.Operator (purpose_of place t) l tm) names body word (kind_of word.bytes)) words program
+      LeftOf (step_at (wait.Operator (purpose_of place t) l tm) names body word.place word.kind) words program
   end_goes place (target.Declare name) l tm rest begins c =
-      by_kind (wait.Operator (purpose_of place (target.Declare name)) l tm) kind.Semicolon (spelled begins.0 is_semicolon)
+      by_kind (wait.Operator (purpose_of place (target.Declare name)) l tm) kind.Semicolon begins.0
       (declared name (stmt.Declare place (Some (joined l tm))) c.0 (subst (λ (ws : List Word). LeftOfBody (names ++ name ∷ []) (body ++ stmt.Declare place (Some (joined l tm)) ∷ []) ws program) (sym begins.1) c.1))
   end_goes place (target.Assign v) l tm rest begins c =
-      by_kind (wait.Operator (purpose_of place (target.Assign v)) l tm) kind.Semicolon (spelled begins.0 is_semicolon)
+      by_kind (wait.Operator (purpose_of place (target.Assign v)) l tm) kind.Semicolon begins.0
       (subst (λ (ws : List Word). LeftOfBody names (body ++ stmt.Assign place v (joined l tm) ∷ []) ws program) (sym begins.1) c)
   end_goes place target.Return l tm rest begins c =
-      by_kind (wait.Operator (purpose_of place target.Return) l tm) kind.Semicolon (spelled begins.0 is_semicolon)
+      by_kind (wait.Operator (purpose_of place target.Return) l tm) kind.Semicolon begins.0
       (subst (λ (ws : List Word). LeftOfBody names (body ++ stmt.Return place (joined l tm) ∷ []) ws program) (sym begins.1) c)
   end_goes place target.Print l tm rest begins c =
-      by_kind (wait.Operator (purpose_of place target.Print) l tm) kind.RightParen (spelled begins.0 is_right_paren)
+      by_kind (wait.Operator (purpose_of place target.Print) l tm) kind.RightParen begins.0
       (record { rest = rest; begins = begins.1; follows = c })
 
   -- an operator of a term
@@ -178,7 +171,7 @@ module _ (names : Spellings) (body : List Stmt) (word : Word) (words : List Word
       IsFactor (length names) f → AreMultipliers (length names) ms → AreAddends (length names) more →
       Begins (term_mark op ∷ factor_before names f (multipliers_before names ms (addends_before names more (close p.target)))) (word ∷ words) rest →
       Closes names body p.place p.target (extended l (lengthened t (record { op = op; factor = f } ∷ ms)) more) rest program →
-      LeftOf (step_at (wait.Operator p l t) names body word (kind_of word.bytes)) words program
+      LeftOf (step_at (wait.Operator p l t) names body word.place word.kind) words program
   multiplier_goes p l t op f ms more rest i is js begins c = by_op op begins left
     where
       left : LeftOfFactor names body p (slot.Factor l t op) (λ follow. follow) words program
@@ -197,16 +190,16 @@ module _ (names : Spellings) (body : List Stmt) (word : Word) (words : List Word
       }
 
       by_op : (o : TermOp) → Begins (term_mark o ∷ factor_before names f (multipliers_before names ms (addends_before names more (close p.target)))) (word ∷ words) rest →
-          LeftOfFactor names body p (slot.Factor l t o) (λ follow. follow) words program → LeftOf (step_at (wait.Operator p l t) names body word (kind_of word.bytes)) words program
-      by_op term_op.Times b h = by_kind (wait.Operator p l t) kind.Star (spelled b.0 is_star) h
-      by_op term_op.Over b h = by_kind (wait.Operator p l t) kind.Slash (spelled b.0 is_slash) h
+          LeftOfFactor names body p (slot.Factor l t o) (λ follow. follow) words program → LeftOf (step_at (wait.Operator p l t) names body word.place word.kind) words program
+      by_op term_op.Times b h = by_kind (wait.Operator p l t) kind.Star b.0 h
+      by_op term_op.Over b h = by_kind (wait.Operator p l t) kind.Slash b.0 h
 
   -- an operator of a sum
   addend_goes : (p : Purpose) (l : Lead) (t : Term) (op : SumOp) (f : Factor) (ms : List Multiplier) (more : List Addend) (rest : List Word) →
       IsFactor (length names) f → AreMultipliers (length names) ms → AreAddends (length names) more →
       Begins (sum_mark op ∷ factor_before names f (multipliers_before names ms (addends_before names more (close p.target)))) (word ∷ words) rest →
       Closes names body p.place p.target (extended l (lengthened t []) (record { op = op; term = record { first = f; rest = ms } } ∷ more)) rest program →
-      LeftOf (step_at (wait.Operator p l t) names body word (kind_of word.bytes)) words program
+      LeftOf (step_at (wait.Operator p l t) names body word.place word.kind) words program
   addend_goes p l t op f ms more rest i is js begins c = by_op op begins left
     where
       left : LeftOfFactor names body p (slot.Term (lead.After (joined l t) op)) (λ follow. follow) words program
@@ -225,51 +218,49 @@ module _ (names : Spellings) (body : List Stmt) (word : Word) (words : List Word
       }
 
       by_op : (o : SumOp) → Begins (sum_mark o ∷ factor_before names f (multipliers_before names ms (addends_before names more (close p.target)))) (word ∷ words) rest →
-          LeftOfFactor names body p (slot.Term (lead.After (joined l t) o)) (λ follow. follow) words program → LeftOf (step_at (wait.Operator p l t) names body word (kind_of word.bytes)) words program
-      by_op sum_op.Plus b h = by_kind (wait.Operator p l t) kind.Plus (spelled b.0 is_plus) h
-      by_op sum_op.Minus b h = by_kind (wait.Operator p l t) kind.Minus (spelled b.0 is_minus) h
+          LeftOfFactor names body p (slot.Term (lead.After (joined l t) o)) (λ follow. follow) words program → LeftOf (step_at (wait.Operator p l t) names body word.place word.kind) words program
+      by_op sum_op.Plus b h = by_kind (wait.Operator p l t) kind.Plus b.0 h
+      by_op sum_op.Minus b h = by_kind (wait.Operator p l t) kind.Minus b.0 h
 
   operator_goes : (p : Purpose) (l : Lead) (t : Term) (ms : List Multiplier) (more : List Addend) (rest : List Word) →
       AreMultipliers (length names) ms → AreAddends (length names) more →
       Begins (multipliers_before names ms (addends_before names more (close p.target))) (word ∷ words) rest →
       Closes names body p.place p.target (extended l (lengthened t ms) more) rest program →
-      LeftOf (step_at (wait.Operator p l t) names body word (kind_of word.bytes)) words program
+      LeftOf (step_at (wait.Operator p l t) names body word.place word.kind) words program
   operator_goes p l t (m ∷ ms) more rest is js begins c = multiplier_goes p l t m.op m.factor ms more rest is.0 is.1 js begins c
   operator_goes p l t [] (a ∷ more) rest is js begins c = addend_goes p l t a.op a.term.first a.term.rest more rest js.0.0 js.0.1 js.1 begins c
   operator_goes p l t [] [] rest is js begins c =
       end_goes p.place p.target l t rest begins (subst (λ (s : Sum). Closes names body p.place p.target s rest program) (nothing_more l t) c)
 
   -- a mark before a sum
-  behind_mark : (p : Purpose) (mark : List ℕ) →
+  behind_mark : (p : Purpose) (mark : Kind) →
       LeftOfFactor names body p (slot.Term lead.First) (λ follow. mark ∷ follow) (word ∷ words) program → LeftOfFactor names body p (slot.Term lead.First) (λ follow. follow) words program
   behind_mark p mark l = record { factor = l.factor; is_factor = l.is_factor; sum = record { multipliers = l.sum.multipliers; addends = l.sum.addends; rest = l.sum.rest; are_multipliers = l.sum.are_multipliers; are_addends = l.sum.are_addends; begins = l.sum.begins.1; closes = l.sum.closes } }
 
   -- a new name
   behind_name : (place : Place) (name : List ℕ) →
-      LeftOfDeclaration names body place name (λ follow. name ∷ follow) (word ∷ words) program → LeftOfDeclaration names body place word.bytes (λ follow. follow) words program
-  behind_name place name l =
-      subst (λ (n : List ℕ). LeftOfDeclaration names body place n (λ follow. follow) words program) (sym l.begins.0)
-      (record { value = l.value; rest = l.rest; fresh = l.fresh; is_value = l.is_value; begins = l.begins.1; follows = l.follows })
+      LeftOfDeclaration names body place name (λ follow. kind.Name name ∷ follow) (word ∷ words) program → LeftOfDeclaration names body place name (λ follow. follow) words program
+  behind_name place name l = record { value = l.value; rest = l.rest; fresh = l.fresh; is_value = l.is_value; begins = l.begins.1; follows = l.follows }
 
   -- the words that are left, behind the first
   forward_at : (w : Wait) → AreVariables names →
-      LeftAt w names body (word ∷ words) program → LeftOf (step_at w names body word (kind_of word.bytes)) words program
+      LeftAt w names body (word ∷ words) program → LeftOf (step_at w names body word.place word.kind) words program
   forward_at (wait.Header h) vs l = at_header h l
   forward_at wait.Statement vs l = statement_goes vs l.later l.more l.names_are l.body_is l.statements
   forward_at (wait.Name place) vs l = let d = l.declaration in
-      by_kind (wait.Name place) kind.Name (spelled d.begins.0 (kind_of-name l.name l.free)) (behind_name place l.name d)
+      by_kind (wait.Name place) (kind.Name l.name) d.begins.0 (behind_name place l.name d)
   forward_at (wait.Initial place name) vs l = initial_goes place name l.value l.rest l.fresh l.is_value l.begins l.follows
   forward_at (wait.Equals place v) vs l =
-      by_kind (wait.Equals place v) kind.Equals (spelled l.sum.begins.0 is_equals) (behind_mark (purpose_of place (target.Assign v)) (codes "=") l)
+      by_kind (wait.Equals place v) kind.Equals l.sum.begins.0 (behind_mark (purpose_of place (target.Assign v)) (kind.Equals) l)
   forward_at (wait.Parenthesis place) vs l =
-      by_kind (wait.Parenthesis place) kind.LeftParen (spelled l.sum.begins.0 is_left_paren) (behind_mark (purpose_of place target.Print) (codes "(") l)
+      by_kind (wait.Parenthesis place) kind.LeftParen l.sum.begins.0 (behind_mark (purpose_of place target.Print) (kind.LeftParen) l)
   forward_at (wait.Factor p s) vs l = factor_goes vs p s l.factor l.is_factor l.sum
   forward_at (wait.Digits p s) vs l =
-      by_kind (wait.Digits p s) (kind.Number l.number) (spelled l.sum.begins.0 (kind_of-number l.number l.small))
+      by_kind (wait.Digits p s) (kind.Number l.number) l.sum.begins.0
       (behind_left p s (factor.Negative l.number) (record { multipliers = l.sum.multipliers; addends = l.sum.addends; rest = l.sum.rest; are_multipliers = l.sum.are_multipliers; are_addends = l.sum.are_addends; begins = l.sum.begins.1; closes = l.sum.closes }))
   forward_at (wait.Operator p l t) vs h = operator_goes p l t h.multipliers h.addends h.rest h.are_multipliers h.are_addends h.begins h.closes
   forward_at (wait.Semicolon place s) vs l =
-      by_kind (wait.Semicolon place s) kind.Semicolon (spelled l.begins.0 is_semicolon)
+      by_kind (wait.Semicolon place s) kind.Semicolon l.begins.0
       (subst (λ (ws : List Word). LeftOfBody names (body ++ stmt.Print place s ∷ []) ws program) (sym l.begins.1) l.follows)
   forward_at wait.Nothing vs l = absurd (cc)
 

@@ -1,11 +1,6 @@
-pub mod Lists
-pub mod Numbers
-pub mod KindLemmas
-pub mod StepLemmas
-pub mod Forward
-pub mod Backward
-pub mod Longest
-pub mod Cutting
-pub mod Sound
-pub mod ScanLemmas
-pub mod Unique
+mod Lists
+mod StepLemmas
+mod Forward
+mod Backward
+mod Sound
+mod ReadLemmas

@@ -1,11 +1,8 @@
-pub mod Spellings
-pub mod Cut
 pub mod Kinds
 pub mod Spelled
 pub mod FirstForm
 pub mod Reading
 pub mod Gives
 pub mod Left
-pub mod Scanning
 pub mod Meaning
 pub mod Places

@@ -1,4 +1,4 @@
--- What the reader does with a word.
+-- What the reader does with a token.
 use Rattle.std.specs.Prelude.{ℕ, if◌then◌else◌, List, [], ◌∷◌, ◌++◌, Option, Some, None, bytes_eq, position}
 use Rattle.std.specs.List.{list_any}
 use Rattle.std.specs.Option.{option_map}
@@ -14,9 +14,9 @@ use Rattle.first_form.specs.declared.program.Sum.{Sum}
 use Rattle.first_form.specs.declared.program.Stmt.{Stmt}
 use Rattle.first_form.specs.declared.program.Stmt.TheVariants as stmt
 use Rattle.first_form.specs.declared.program.Program.{Program}
-use Rattle.first_form.specs.declared.word.Word.{Word}
-use Rattle.first_form.specs.declared.word.Kind.{Kind}
-use Rattle.first_form.specs.declared.word.Kind.TheVariants as kind
+use Rattle.first_form.specs.declared.kind.Word.{Word}
+use Rattle.first_form.specs.declared.kind.Kind.{Kind}
+use Rattle.first_form.specs.declared.kind.Kind.TheVariants as kind
 use Rattle.first_form.specs.declared.reader.Reader.{Reader}
 use Rattle.first_form.specs.declared.reader.Wait.{Wait}
 use Rattle.first_form.specs.declared.reader.Wait.TheVariants as wait
@@ -29,8 +29,7 @@ use Rattle.first_form.specs.declared.reader.Lead.{Lead}
 use Rattle.first_form.specs.declared.reader.Lead.TheVariants as lead
 use Rattle.first_form.specs.declared.reader.Slot.{Slot}
 use Rattle.first_form.specs.declared.reader.Slot.TheVariants as slot
-use Rattle.first_form.specs.Kinds.{kind_of}
-use Rattle.first_form.specs.Spelled.{Spellings}
+use Rattle.first_form.specs.Spelled.{Names}
 
 -- the sum of what stands before a term, and the term
 abbrev pub joined : Lead → Term → Sum
@@ -46,11 +45,11 @@ abbrev pub behind_factor : Purpose → Slot → Factor → Wait
 behind_factor p (slot.Term l) f = wait.Operator p l (record { first = f; rest = [] })
 behind_factor p (slot.Factor l t op) f = wait.Operator p l (multiplied t op f)
 
--- the factor that a word is, unless it is `-`
-abbrev pub factor_of : Spellings → List ℕ → Kind → Option Factor
-factor_of names bytes (kind.Number n) = Some (factor.Number n)
-factor_of names bytes kind.Name = option_map factor.Variable (position (bytes_eq bytes) names)
-factor_of names bytes _ = None
+-- the factor that a token is, unless it is `-`
+abbrev pub factor_of : Names → Kind → Option Factor
+factor_of names (kind.Number n) = Some (factor.Number n)
+factor_of names (kind.Name name) = option_map factor.Variable (position (bytes_eq name) names)
+factor_of names _ = None
 
 abbrev pub after_header : Header → Kind → Option Wait
 after_header header.Int kind.Int = Some (wait.Header header.Main)
@@ -64,34 +63,34 @@ after_header _ _ = None
 abbrev pub first_of_sum : Place → Target → Wait
 first_of_sum place t = wait.Factor (record { place = place; target = t }) (slot.Term lead.First)
 
-abbrev pub statement_start : Spellings → Word → Kind → Option Wait
-statement_start names word kind.Int = Some (wait.Name word.place)
-statement_start names word kind.Putint = Some (wait.Parenthesis word.place)
-statement_start names word kind.Return = Some (first_of_sum word.place target.Return)
-statement_start names word kind.RightBrace = Some wait.Nothing
-statement_start names word kind.Name = option_map (λ v. wait.Equals word.place v) (position (bytes_eq word.bytes) names)
-statement_start names word _ = None
+abbrev pub statement_start : Names → Place → Kind → Option Wait
+statement_start names place kind.Int = Some (wait.Name place)
+statement_start names place kind.Putint = Some (wait.Parenthesis place)
+statement_start names place kind.Return = Some (first_of_sum place target.Return)
+statement_start names place kind.RightBrace = Some wait.Nothing
+statement_start names place (kind.Name name) = option_map (λ v. wait.Equals place v) (position (bytes_eq name) names)
+statement_start names place _ = None
 
-abbrev pub waiting : Spellings → List Stmt → Wait → Reader
+abbrev pub waiting : Names → List Stmt → Wait → Reader
 waiting names body w = record { names = names; body = body; wait = w }
 
 -- the reader with one statement more
-abbrev pub with_statement : Spellings → List Stmt → Stmt → Reader
+abbrev pub with_statement : Names → List Stmt → Stmt → Reader
 with_statement names body s = waiting names (body ++ s ∷ []) wait.Statement
 
 -- the same, where the statement declares a name
-abbrev pub with_declaration : Spellings → List Stmt → List ℕ → Stmt → Option Reader
+abbrev pub with_declaration : Names → List Stmt → List ℕ → Stmt → Option Reader
 with_declaration names body name s =
     if list_any (bytes_eq name) names then None else Some (with_statement (names ++ name ∷ []) body s)
 
 -- `;` behind a sum
-abbrev pub closed_for : Spellings → List Stmt → Place → Target → Sum → Option Reader
+abbrev pub closed_for : Names → List Stmt → Place → Target → Sum → Option Reader
 closed_for names body place (target.Declare name) s = with_declaration names body name (stmt.Declare place (Some s))
 closed_for names body place (target.Assign v) s = Some (with_statement names body (stmt.Assign place v s))
 closed_for names body place target.Return s = Some (with_statement names body (stmt.Return place s))
 closed_for names body place target.Print s = None
 
-abbrev pub closed : Spellings → List Stmt → Purpose → Sum → Option Reader
+abbrev pub closed : Names → List Stmt → Purpose → Sum → Option Reader
 closed names body p s = closed_for names body p.place p.target s
 
 -- `)` behind a sum
@@ -116,24 +115,24 @@ after_operator p l t kind.Slash = Some (next_factor p l t term_op.Over)
 after_operator p l t kind.RightParen = parenthesised p (joined l t)
 after_operator p l t _ = None
 
-abbrev pub behind_sum : Spellings → List Stmt → Purpose → Lead → Term → Kind → Option Reader
+abbrev pub behind_sum : Names → List Stmt → Purpose → Lead → Term → Kind → Option Reader
 behind_sum names body p l t kind.Semicolon = closed names body p (joined l t)
 behind_sum names body p l t k = option_map (waiting names body) (after_operator p l t k)
 
 -- a factor, or the `-` before a number
-abbrev pub after_factor : Spellings → Purpose → Slot → Word → Kind → Option Wait
-after_factor names p o word kind.Minus = Some (wait.Digits p o)
-after_factor names p o word k = option_map (behind_factor p o) (factor_of names word.bytes k)
+abbrev pub after_factor : Names → Purpose → Slot → Kind → Option Wait
+after_factor names p o kind.Minus = Some (wait.Digits p o)
+after_factor names p o k = option_map (behind_factor p o) (factor_of names k)
 
 abbrev pub after_digits : Purpose → Slot → Kind → Option Wait
 after_digits p o (kind.Number n) = Some (behind_factor p o (factor.Negative n))
 after_digits p o _ = None
 
-abbrev pub after_name : Word → Place → Kind → Option Wait
-after_name word place kind.Name = Some (wait.Initial place word.bytes)
-after_name word place _ = None
+abbrev pub after_name : Place → Kind → Option Wait
+after_name place (kind.Name name) = Some (wait.Initial place name)
+after_name place _ = None
 
-abbrev pub after_initial : Spellings → List Stmt → Place → List ℕ → Kind → Option Reader
+abbrev pub after_initial : Names → List Stmt → Place → List ℕ → Kind → Option Reader
 after_initial names body place name kind.Semicolon = with_declaration names body name (stmt.Declare place None)
 after_initial names body place name kind.Equals = Some (waiting names body (first_of_sum place (target.Declare name)))
 after_initial names body place name _ = None
@@ -146,31 +145,31 @@ abbrev pub after_parenthesis : Place → Kind → Option Wait
 after_parenthesis place kind.LeftParen = Some (first_of_sum place target.Print)
 after_parenthesis place _ = None
 
-abbrev pub after_semicolon : Spellings → List Stmt → Place → Sum → Kind → Option Reader
+abbrev pub after_semicolon : Names → List Stmt → Place → Sum → Kind → Option Reader
 after_semicolon names body place s kind.Semicolon = Some (with_statement names body (stmt.Print place s))
 after_semicolon names body place s _ = None
 
-abbrev pub step_at : Wait → Spellings → List Stmt → Word → Kind → Option Reader
-step_at (wait.Header h) names body word k = option_map (waiting names body) (after_header h k)
-step_at wait.Statement names body word k = option_map (waiting names body) (statement_start names word k)
-step_at (wait.Name place) names body word k = option_map (waiting names body) (after_name word place k)
-step_at (wait.Initial place name) names body word k = after_initial names body place name k
-step_at (wait.Equals place v) names body word k = option_map (waiting names body) (after_equals place v k)
-step_at (wait.Parenthesis place) names body word k = option_map (waiting names body) (after_parenthesis place k)
-step_at (wait.Factor p o) names body word k = option_map (waiting names body) (after_factor names p o word k)
-step_at (wait.Digits p o) names body word k = option_map (waiting names body) (after_digits p o k)
-step_at (wait.Operator p l t) names body word k = behind_sum names body p l t k
-step_at (wait.Semicolon place s) names body word k = after_semicolon names body place s k
-step_at wait.Nothing names body word k = None
+abbrev pub step_at : Wait → Names → List Stmt → Place → Kind → Option Reader
+step_at (wait.Header h) names body at k = option_map (waiting names body) (after_header h k)
+step_at wait.Statement names body at k = option_map (waiting names body) (statement_start names at k)
+step_at (wait.Name place) names body at k = option_map (waiting names body) (after_name place k)
+step_at (wait.Initial place name) names body at k = after_initial names body place name k
+step_at (wait.Equals place v) names body at k = option_map (waiting names body) (after_equals place v k)
+step_at (wait.Parenthesis place) names body at k = option_map (waiting names body) (after_parenthesis place k)
+step_at (wait.Factor p o) names body at k = option_map (waiting names body) (after_factor names p o k)
+step_at (wait.Digits p o) names body at k = option_map (waiting names body) (after_digits p o k)
+step_at (wait.Operator p l t) names body at k = behind_sum names body p l t k
+step_at (wait.Semicolon place s) names body at k = after_semicolon names body place s k
+step_at wait.Nothing names body at k = None
 
 -- the reader behind the word, where the word may come next
 unfoldable pub step : Reader → Word → Option Reader
-step r word = step_at r.wait r.names r.body word (kind_of word.bytes)
+step r word = step_at r.wait r.names r.body word.place word.kind
 
 abbrev pub start_reader : Reader
 start_reader = waiting [] [] (wait.Header header.Int)
 
-abbrev pub finished_at : Wait → Spellings → List Stmt → Option Program
+abbrev pub finished_at : Wait → Names → List Stmt → Option Program
 finished_at wait.Nothing names body = Some (record { names = names; body = body })
 finished_at _ names body = None
 

@@ -3,11 +3,10 @@ ghost use Rattle.first_form.specs.Reading as spec;
 ghost use Rattle.first_form.specs.Gives.{Gives};
 
 use crate::error::ReadErr;
-use crate::kinds::classify;
+use crate::kind::{Kind, Word};
 use crate::names::Names;
 use crate::piece::Piece;
 use crate::program::{Addend, Factor, Multiplier, Program, Stmt, Sum, SumOp, Term, TermOp};
-use crate::word::{Kind, Word};
 use ib_meaning::Place;
 use sqlite_items::Items;
 use std::alloc::{AllocError, Global};
@@ -108,8 +107,8 @@ pub enum Slot {
 
 type Next<'a> = Result<Wait<'a>, ReadErr>;
 
-fn after_header<'a>(header: Header, kind: Kind) -> Next<'a>
-    ensures { Gives (spec.after_header header kind) result }
+fn after_header<'a>(header: Header, kind: Kind<'a>) -> Next<'a>
+    ensures { Gives (spec.after_header header kind.entry) result }
 {
     match header {
         Header::Int => match kind {
@@ -148,16 +147,15 @@ fn first_of_sum<'a>(place: Place, target: Target<'a>) -> Wait<'a>
     }
 }
 
-fn statement_start<'a>(names: &Names<'a>, word: Word<'a>, kind: Kind) -> Next<'a>
-    ensures { Gives (spec.statement_start names.now word.entry kind) result }
+fn statement_start<'a>(names: &Names<'a>, place: Place, kind: Kind<'a>) -> Next<'a>
+    ensures { Gives (spec.statement_start names.now place kind.entry) result }
 {
-    let Word { place, bytes } = word;
     match kind {
         Kind::Int => Ok(Wait::Name { place }),
         Kind::Putint => Ok(Wait::Parenthesis { place }),
         Kind::Return => Ok(first_of_sum(place, Target::Return)),
         Kind::RightBrace => Ok(Wait::Nothing),
-        Kind::Name => match names.find(bytes.bytes()) {
+        Kind::Name(name) => match names.find(name.bytes()) {
             Some(variable) => Ok(Wait::Equals { place, variable }),
             None => Err(ReadErr::NotFirstForm),
         },
@@ -165,18 +163,17 @@ fn statement_start<'a>(names: &Names<'a>, word: Word<'a>, kind: Kind) -> Next<'a
     }
 }
 
-fn after_name<'a>(word: Word<'a>, place: Place, kind: Kind) -> Next<'a>
-    ensures { Gives (spec.after_name word.entry place kind) result }
+fn after_name<'a>(place: Place, kind: Kind<'a>) -> Next<'a>
+    ensures { Gives (spec.after_name place kind.entry) result }
 {
-    let Word { bytes, .. } = word;
     match kind {
-        Kind::Name => Ok(Wait::Initial { place, name: bytes }),
+        Kind::Name(name) => Ok(Wait::Initial { place, name }),
         _ => Err(ReadErr::NotFirstForm),
     }
 }
 
-fn after_equals<'a>(place: Place, variable: u32, kind: Kind) -> Next<'a>
-    ensures { Gives (spec.after_equals place variable kind) result }
+fn after_equals<'a>(place: Place, variable: u32, kind: Kind<'a>) -> Next<'a>
+    ensures { Gives (spec.after_equals place variable kind.entry) result }
 {
     match kind {
         Kind::Equals => Ok(first_of_sum(place, Target::Assign { variable })),
@@ -184,8 +181,8 @@ fn after_equals<'a>(place: Place, variable: u32, kind: Kind) -> Next<'a>
     }
 }
 
-fn after_parenthesis<'a>(place: Place, kind: Kind) -> Next<'a>
-    ensures { Gives (spec.after_parenthesis place kind) result }
+fn after_parenthesis<'a>(place: Place, kind: Kind<'a>) -> Next<'a>
+    ensures { Gives (spec.after_parenthesis place kind.entry) result }
 {
     match kind {
         Kind::LeftParen => Ok(first_of_sum(place, Target::Print)),
@@ -252,12 +249,12 @@ fn behind_factor<'a>(
     }
 }
 
-fn factor_of(names: &Names<'_>, bytes: &[u8], kind: Kind) -> Option<Factor>
-    ensures { result ≡ spec.factor_of names.now bytes.now kind }
+fn factor_of(names: &Names<'_>, kind: Kind<'_>) -> Option<Factor>
+    ensures { result ≡ spec.factor_of names.now kind.entry }
 {
     match kind {
         Kind::Number(n) => Some(Factor::Number(n)),
-        Kind::Name => match names.find(bytes) {
+        Kind::Name(name) => match names.find(name.bytes()) {
             Some(variable) => Some(Factor::Variable(variable)),
             None => None,
         },
@@ -270,22 +267,21 @@ fn after_factor<'a>(
     names: &Names<'a>,
     purpose: Purpose<'a>,
     slot: Slot,
-    word: Word<'a>,
-    kind: Kind,
+    kind: Kind<'a>,
 ) -> Next<'a>
-    ensures { Gives (spec.after_factor names.now purpose.entry slot word.entry kind) result }
+    ensures { Gives (spec.after_factor names.now purpose.entry slot kind.entry) result }
 {
     if matches!(&kind, Kind::Minus) {
         return Ok(Wait::Digits { purpose, slot });
     }
-    match factor_of(names, word.bytes.bytes(), kind) {
+    match factor_of(names, kind) {
         Some(factor) => Ok(behind_factor(alloc, purpose, slot, factor)?),
         None => Err(ReadErr::NotFirstForm),
     }
 }
 
-fn after_digits<'a>(alloc: Global, purpose: Purpose<'a>, slot: Slot, kind: Kind) -> Next<'a>
-    ensures { Gives (spec.after_digits purpose.entry slot kind) result }
+fn after_digits<'a>(alloc: Global, purpose: Purpose<'a>, slot: Slot, kind: Kind<'a>) -> Next<'a>
+    ensures { Gives (spec.after_digits purpose.entry slot kind.entry) result }
 {
     match kind {
         Kind::Number(n) => Ok(behind_factor(alloc, purpose, slot, Factor::Negative(n))?),
@@ -331,9 +327,9 @@ fn after_initial<'a>(
     body: Items<Stmt>,
     place: Place,
     name: Piece<'a>,
-    kind: Kind,
+    kind: Kind<'a>,
 ) -> Result<Reader<'a>, ReadErr>
-    ensures { Gives (spec.after_initial names.entry body place name.entry kind) result }
+    ensures { Gives (spec.after_initial names.entry body place name.entry kind.entry) result }
 {
     match kind {
         Kind::Semicolon => {
@@ -352,9 +348,9 @@ fn after_semicolon<'a>(
     body: Items<Stmt>,
     place: Place,
     value: Sum,
-    kind: Kind,
+    kind: Kind<'a>,
 ) -> Result<Reader<'a>, ReadErr>
-    ensures { Gives (spec.after_semicolon names.entry body place value kind) result }
+    ensures { Gives (spec.after_semicolon names.entry body place value kind.entry) result }
 {
     match kind {
         Kind::Semicolon => with_statement(names, body, Stmt::Print { place, value }),
@@ -424,9 +420,9 @@ fn after_operator<'a>(
     purpose: Purpose<'a>,
     lead: Lead,
     term: Term,
-    kind: Kind,
+    kind: Kind<'a>,
 ) -> Next<'a>
-    ensures { Gives (spec.after_operator purpose.entry lead term kind) result }
+    ensures { Gives (spec.after_operator purpose.entry lead term kind.entry) result }
 {
     match kind {
         Kind::Plus => next_term(alloc, purpose, lead, term, SumOp::Plus),
@@ -449,9 +445,9 @@ fn behind_sum<'a>(
     purpose: Purpose<'a>,
     lead: Lead,
     term: Term,
-    kind: Kind,
+    kind: Kind<'a>,
 ) -> Result<Reader<'a>, ReadErr>
-    ensures { Gives (spec.behind_sum names.entry body purpose.entry lead term kind) result }
+    ensures { Gives (spec.behind_sum names.entry body purpose.entry lead term kind.entry) result }
 {
     if matches!(&kind, Kind::Semicolon) {
         let sum = joined(alloc, lead, term)?;
@@ -477,7 +473,7 @@ impl<'a> Reader<'a> {
     pub fn take(self, alloc: Global, word: Word<'a>) -> Result<Reader<'a>, ReadErr>
         ensures { Gives (spec.step self.entry word.entry) result }
     {
-        let kind = classify(word.bytes.bytes());
+        let Word { place: at, kind } = word;
         let Reader { names, body, wait } = self;
         match wait {
             Wait::Header(header) => {
@@ -485,11 +481,11 @@ impl<'a> Reader<'a> {
                 Ok(waiting(names, body, next))
             }
             Wait::Statement => {
-                let next = statement_start(&names, word, kind)?;
+                let next = statement_start(&names, at, kind)?;
                 Ok(waiting(names, body, next))
             }
             Wait::Name { place } => {
-                let next = after_name(word, place, kind)?;
+                let next = after_name(place, kind)?;
                 Ok(waiting(names, body, next))
             }
             Wait::Initial { place, name } => after_initial(names, body, place, name, kind),
@@ -502,7 +498,7 @@ impl<'a> Reader<'a> {
                 Ok(waiting(names, body, next))
             }
             Wait::Factor { purpose, slot } => {
-                let next = after_factor(alloc, &names, purpose, slot, word, kind)?;
+                let next = after_factor(alloc, &names, purpose, slot, kind)?;
                 Ok(waiting(names, body, next))
             }
             Wait::Digits { purpose, slot } => {

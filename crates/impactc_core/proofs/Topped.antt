@@ -5,7 +5,6 @@ use Rattle.std.specs.FinMap.{get}
 use Rattle.ib_base.specs.Cause.{Rose}
 use Rattle.ib_base.specs.World.{World, Disk}
 use Rattle.first_form.specs.declared.program.Program.{Program}
-use Rattle.first_form.specs.FirstForm.{IsFirstForm}
 use Rattle.impactc_core.specs.declared.core_err.CoreErr.{CoreErr}
 use Rattle.impactc_core.specs.declared.core_err.CoreErr.TheVariants.{Usage as BadWords, Source, HostFault as Host, NoMemory as Memory, TooLarge as Large}
 use Rattle.impactc_core.specs.declared.status.Status.{Status}
@@ -14,9 +13,10 @@ use Rattle.impactc_core.specs.declared.success.Success.{Success}
 use Rattle.impactc_core.specs.declared.success.Success.TheVariants.{Ended, Faulted}
 use Rattle.impactc_core.specs.declared.words.Command.{Command}
 use Rattle.impactc_core.specs.declared.words.Command.TheVariants.{Run}
-use Rattle.impactc_core.specs.Answers.{IsPlain, AnswerOf, RunAnswer, MayChange, Works, IsAnswersNote, NoteOf, Answers, IsCaused, IsRunnable}
+use Rattle.impactc_core.specs.Answers.{IsPlain, HasProgram, AnswerOf, RunAnswer, MayChange, Works, IsAnswersNote, NoteOf, Answers, IsCaused, IsRunnable}
 use Rattle.impactc_core.specs.Notes.{refusal_note, status_of, note_of}
 use Rattle.impactc_core.specs.Work.{NoteFor, LeavesNote}
+use Rattle.impactc_core.proofs.Working.{no_fault}
 
 module _ (answer : Status → World → World → List ℕ → Type 0) (may : World → World → Type 0) (old mid : World) (work : Result Success CoreErr) (works : Works answer may old mid (status_of work) (note_of work)) where
   of_work : (status : Status) (whole : List ℕ) → IsPlain (status_of work) → whole ≡ note_of work → IsAnswersNote answer old mid whole
@@ -128,7 +128,7 @@ at_run file content program old new Usage rose can answers fault = absurd answer
 at_run file content program old new SourceRefused rose can answers fault =
     let refused = answers.says in
     let same : content ≡ refused.content = same_content old.disk file content refused.content can.there refused.source.there in
-    absurd (refused.no_program program (subst (λ (bytes : List ℕ). IsFirstForm bytes program) same can.form))
+    absurd (no_fault refused.content program (subst (λ (bytes : List ℕ). HasProgram bytes program) same can.form) refused.place refused.reason refused.has_fault)
 at_run file content program old new ProfileRefused rose can answers fault = absurd answers.says
 at_run file content program old new CodeRefused rose can answers fault = absurd answers.says
 at_run file content program old new HostFault rose can answers fault = inr (inr (inr (fault refl)))

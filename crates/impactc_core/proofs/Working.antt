@@ -1,37 +1,70 @@
 -- The work of `run F`, put together.
-use Rattle.std.proofs.Common.{◌≡◌, inl, inr, ℕ, List, Result, Ok, Err, IfOk, IfErr, Some, refl, sym, ap, ◌∙◌, subst}
+use Rattle.std.proofs.Common.{◌≡◌, inl, inr, ℕ, suc, List, [], ◌∷◌, length, arith, Result, Ok, Err, IfOk, IfErr, Some, refl, sym, ap, subst}
+use Rattle.ib_meaning.specs.declared.place.Place.{Place}
 use Rattle.ib_meaning.specs.Agreement.{HasOver, IsPrefix, out_of}
 use Rattle.ib_meaning.proofs.Agreement.{same_ends, prefix_refl}
 use Rattle.ib_base.specs.World.{World}
 use Rattle.first_form.specs.declared.program.Program.{Program}
-use Rattle.first_form.specs.FirstForm.{IsFirstForm}
+use Rattle.c_ast.specs.declared.token.Token.{Token}
+use Rattle.c_ast.specs.Cut.{AreTokens, whole, stopped}
+use Rattle.c_lex.proofs.Unique.{unique}
+use Rattle.first_form.specs.FirstForm.{IsFirstForm, words_of}
 use Rattle.first_form.specs.Meaning.{source_meaning}
 use Rattle.first_code.specs.Made.{IsShort}
 use Rattle.impactc_core.specs.declared.core_err.CoreErr.{CoreErr}
 use Rattle.impactc_core.specs.declared.core_err.CoreErr.TheVariants.{Usage as BadWords, Source, HostFault as Host, NoMemory as Memory, TooLarge as Large}
 use Rattle.impactc_core.specs.declared.core_err.Limit.TheVariants.{Source as SourceBytes}
-use Rattle.impactc_core.specs.declared.core_err.SourceFault.TheVariants.{NotInThisVersion}
+use Rattle.impactc_core.specs.declared.core_err.SourceFault.{SourceFault}
+use Rattle.impactc_core.specs.declared.core_err.SourceFault.TheVariants.{Lexical, NotInThisVersion}
 use Rattle.impactc_core.specs.declared.success.Success.{Success}
 use Rattle.impactc_core.specs.declared.success.Success.TheVariants.{Ended, Faulted}
 use Rattle.impactc_core.specs.declared.words.Command.TheVariants.{Run}
-use Rattle.impactc_core.specs.Answers.{IsSource, HasRun, RunAnswer, MayChange, Works}
+use Rattle.impactc_core.specs.Answers.{IsSource, HasFault, HasProgram, HasRun, RunAnswer, MayChange, Works}
 use Rattle.impactc_core.specs.Notes.{status_of, note_of, refusal_note}
 use Rattle.impactc_core.specs.Runs.{ForInput, PrintsPartOf, finish_of}
 use Rattle.impactc_core.specs.Work.{IsReadErr, IsBreak, RunsProgram, RunsSource, RefusesSource}
 
-pub short_program : (bytes : List ℕ) (program : Program) → IsFirstForm bytes program → IsShort program
-short_program bytes program form = record { words = form.words; few = form.few; spelled = form.spelled }
+-- the tokens as the first form sees them are as many
+length-words : (bytes : List ℕ) (tokens : List Token) → length (words_of bytes tokens) ≡ length tokens
+length-words bytes [] = refl
+length-words bytes (t ∷ tokens) = ap suc (length-words bytes tokens)
 
-pub runs_source : (bytes : List ℕ) (program : Program) (success : Success) (old new : World) → IsFirstForm bytes program → RunsProgram program success old new → RunsSource bytes success old new
-runs_source bytes program success old new form runs = record { program = program; form = form; runs = runs }
+pub short_program : (bytes : List ℕ) (tokens : List Token) (program : Program) → IsFirstForm bytes tokens program → IsShort program
+short_program bytes tokens program form = record { words = words_of bytes tokens; few = omega (arith, length-words bytes tokens, form.few); spelled = form.spelled }
+
+pub runs_source : (bytes : List ℕ) (tokens : List Token) (program : Program) (success : Success) (old new : World) → AreTokens bytes tokens → IsFirstForm bytes tokens program → RunsProgram program success old new → RunsSource bytes success old new
+runs_source bytes tokens program success old new cut form runs = record { program = program; form = record { tokens = tokens; cut = cut; form = form }; runs = runs }
 
 -- a run that broke off
-pub refuses_broken : (file bytes : List ℕ) (program : Program) (refusal : CoreErr) (old new : World) → IsFirstForm bytes program → IsBreak refusal → PrintsPartOf (source_meaning program) old new → RefusesSource file bytes refusal old new
-refuses_broken file bytes program BadWords old new form is part = absurd is
-refuses_broken file bytes program (Source name place fault) old new form is part = absurd is
-refuses_broken file bytes program Host old new form is part = (program, form, part)
-refuses_broken file bytes program Memory old new form is part = inr (program, form, part)
-refuses_broken file bytes program (Large limit) old new form is part = absurd is
+broken : (file bytes : List ℕ) (program : Program) (refusal : CoreErr) (old new : World) → HasProgram bytes program → IsBreak refusal → PrintsPartOf (source_meaning program) old new → RefusesSource file bytes refusal old new
+broken file bytes program BadWords old new has is part = absurd is
+broken file bytes program (Source name place reason) old new has is part = absurd is
+broken file bytes program Host old new has is part = (program, has, part)
+broken file bytes program Memory old new has is part = inr (program, has, part)
+broken file bytes program (Large limit) old new has is part = absurd is
+
+pub refuses_broken : (file bytes : List ℕ) (tokens : List Token) (program : Program) (refusal : CoreErr) (old new : World) → AreTokens bytes tokens → IsFirstForm bytes tokens program → IsBreak refusal → PrintsPartOf (source_meaning program) old new → RefusesSource file bytes refusal old new
+refuses_broken file bytes tokens program refusal old new cut form is part = broken file bytes program refusal old new (record { tokens = tokens; cut = cut; form = form }) is part
+
+-- a source that has tokens, but those of no program
+pub refuses_form : (file bytes : List ℕ) (tokens : List Token) (w : World) → AreTokens bytes tokens → ((program : Program) → IsFirstForm bytes tokens program → ⊥) → RefusesSource file bytes (Source file (record { line = 1; col = 1 }) NotInThisVersion) w w
+refuses_form file bytes tokens w cut none = (
+  refl,
+  (
+    refl,
+    (tokens, cut),
+    λ program has.
+        none program (subst (λ (ts : List Token). IsFirstForm bytes ts program) (unique bytes has.tokens tokens whole whole has.cut cut).0 has.form),
+  ),
+  refl,
+)
+
+-- what has a program has no fault
+pub no_fault : (content : List ℕ) (program : Program) → HasProgram content program → (place : Place) (reason : SourceFault) → HasFault content place reason → ⊥
+no_fault content program has place (Lexical kind) stops =
+    let same : whole ≡ stopped kind place = (unique content has.tokens stops.tokens whole (stopped kind place) has.cut stops.cut).1 in
+    cc
+no_fault content program has place NotInThisVersion is = is.2 program has
 
 -- where a code is over, its program is, alike
 source_ends : (program : Program) (success : Success) (old new : World) → (runs : RunsProgram program success old new) → ForInput old new (λ input left. HasOver (source_meaning program) input (finish_of success) runs.runs.out left)
@@ -75,14 +108,16 @@ works_ran file bytes success old new source ran = record {
 
 works_refused : (file bytes : List ℕ) (refusal : CoreErr) (old new : World) → IsSource file old bytes → RefusesSource file bytes refusal old new → Works (RunAnswer file) (MayChange (Some (Run file))) old new (status_of (Err refusal)) (note_of (Err refusal))
 works_refused file bytes BadWords old new source is = absurd is
-works_refused file bytes (Source name place NotInThisVersion) old new source is = record {
-  may = inl is.3;
+works_refused file bytes (Source name place reason) old new source is = record {
+  may = inl is.2;
   answers = λ plain. record {
     content = bytes;
+    place = place;
+    reason = reason;
     source = source;
-    no_program = is.2;
-    same = is.3;
-    says = ap (λ (f : List ℕ). refusal_note (Source f place NotInThisVersion)) is.0 ∙ ap (λ (p : _). refusal_note (Source file p NotInThisVersion)) is.1;
+    has_fault = is.1;
+    same = is.2;
+    says = ap (λ (f : List ℕ). refusal_note (Source f place reason)) is.0;
   };
 }
 works_refused file bytes Host old new source is = record {

@@ -8,12 +8,15 @@ use Rattle.ib_base.specs.Cause.{Rose}
 use Rattle.ib_base.specs.World.{World, HasFile, LacksFile, Begins, noted}
 use Rattle.wide_core.specs.declared.code.RawCode.{RawCode}
 use Rattle.wide_core.specs.Meaning.{wide_meaning}
+use Rattle.c_ast.specs.declared.token.Token.{Token}
+use Rattle.c_ast.specs.Cut.{AreTokens, StopsAt}
 use Rattle.first_form.specs.declared.program.Program.{Program}
 use Rattle.first_form.specs.FirstForm.{IsFirstForm}
 use Rattle.first_form.specs.Meaning.{source_meaning}
 use Rattle.first_code.specs.Plain.{IsPlain as IsPlainCode}
 use Rattle.impactc_core.specs.declared.core_err.Limit.TheVariants.{Source as SourceBytes}
-use Rattle.impactc_core.specs.declared.core_err.SourceFault.TheVariants.{NotInThisVersion}
+use Rattle.impactc_core.specs.declared.core_err.SourceFault.{SourceFault}
+use Rattle.impactc_core.specs.declared.core_err.SourceFault.TheVariants.{Lexical, NotInThisVersion}
 use Rattle.impactc_core.specs.declared.core_err.CoreErr.TheVariants.{Usage as BadWords, Source, HostFault as Host, NoMemory as Memory, TooLarge as Large}
 use Rattle.impactc_core.specs.declared.status.Status.{Status}
 use Rattle.impactc_core.specs.declared.status.Status.TheVariants.{Done, Usage, SourceRefused, HostFault, NoMemory, TooLarge, ProgramFault}
@@ -46,13 +49,30 @@ pub record IsTooLarge (file : List ℕ) (old new : World) (note : List ℕ) : Ty
   pub same : new ≡ old
   pub says : note ≡ refusal_note (Large SourceBytes)
 
--- the file is in no form that this version compiles; nothing is printed, and the input is left
+-- the content has tokens, and they are those of the program
+pub record HasProgram (content : List ℕ) (program : Program) : Type 0 where
+  pub tokens : List Token
+  pub cut : AreTokens content tokens
+  pub form : IsFirstForm content tokens program
+
+abbrev pub HasTokens : List ℕ → Type 0
+HasTokens content = (tokens : List Token) × AreTokens content tokens
+
+-- why a content within the limit is refused, at which place; a later cause holds that no earlier one does
+abbrev pub HasFault : List ℕ → Place → SourceFault → Type 0
+HasFault content place (Lexical kind) = StopsAt content kind place
+HasFault content place NotInThisVersion =
+    (place ≡ record { line = 1; col = 1 }) × HasTokens content × ((program : Program) → HasProgram content program → ⊥)
+
+-- the file is no source that this version compiles; nothing is printed, and the input is left
 pub record IsRefused (file : List ℕ) (old new : World) (note : List ℕ) : Type 0 where
   pub content : List ℕ
+  pub place : Place
+  pub reason : SourceFault
   pub source : IsSource file old content
-  pub no_program : (program : Program) → IsFirstForm content program → ⊥
+  pub has_fault : HasFault content place reason
   pub same : new ≡ old
-  pub says : note ≡ refusal_note (Source file (record { line = 1; col = 1 }) NotInThisVersion)
+  pub says : note ≡ refusal_note (Source file place reason)
 
 -- the file's program was run to its end: by a code that agrees with it, within 100,000,000 cycles
 pub record HasRun (file : List ℕ) (success : Success) (old new : World) (note : List ℕ) : Type 0 where
@@ -60,7 +80,7 @@ pub record HasRun (file : List ℕ) (success : Success) (old new : World) (note 
   pub program : Program
   pub code : RawCode
   pub source : IsSource file old content
-  pub form : IsFirstForm content program
+  pub form : HasProgram content program
   pub plain : IsPlainCode code
   pub agrees : Agrees (source_meaning program) (wide_meaning code)
   pub some : 1 ≤ cycles_of success
@@ -81,7 +101,7 @@ pub record HasRunInPart (file : List ℕ) (old new : World) : Type 0 where
   pub content : List ℕ
   pub program : Program
   pub source : IsSource file old content
-  pub form : IsFirstForm content program
+  pub form : HasProgram content program
   pub prints : PrintsPartOf (source_meaning program) old new
 
 -- ---- every command
@@ -142,4 +162,4 @@ pub record IsCaused (before now : ℕ) (failed : Type 0) : Type 0 where
 pub record IsRunnable (file : List ℕ) (w : World) (content : List ℕ) (program : Program) : Type 0 where
   pub there : IsSomeAnd w.disk (λ disk. get disk.files file ≡ Some content)
   pub fits : length content ≤ 1048576
-  pub form : IsFirstForm content program
+  pub form : HasProgram content program

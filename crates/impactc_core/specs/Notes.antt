@@ -3,18 +3,22 @@ use Rattle.std.specs.Prelude.{ℕ, List, [], ◌∷◌, ◌++◌, Result, Ok, Er
 use Rattle.std.specs.Fmt.{signed_decimal}
 use Rattle.ib_meaning.specs.FaultKind.{kind_name}
 use Rattle.ib_meaning.specs.Place.{place_text}
+use Rattle.c_ast.specs.declared.fault.LexFault.TheVariants.{BadByte, OpenComment, BadLiteral}
 use Rattle.impactc_core.specs.declared.core_err.CoreErr.{CoreErr}
 use Rattle.impactc_core.specs.declared.core_err.CoreErr.TheVariants.{Usage as BadWords, Source, HostFault as Host, NoMemory as Memory, TooLarge as Large}
 use Rattle.impactc_core.specs.declared.core_err.Limit.{Limit}
 use Rattle.impactc_core.specs.declared.core_err.Limit.TheVariants.{Source as SourceBytes}
 use Rattle.impactc_core.specs.declared.core_err.SourceFault.{SourceFault}
-use Rattle.impactc_core.specs.declared.core_err.SourceFault.TheVariants.{NotInThisVersion}
+use Rattle.impactc_core.specs.declared.core_err.SourceFault.TheVariants.{Lexical, NotInThisVersion}
 use Rattle.impactc_core.specs.declared.status.Status.{Status}
 use Rattle.impactc_core.specs.declared.status.Status.TheVariants.{Done, Usage, SourceRefused, HostFault, NoMemory, TooLarge, ProgramFault}
 use Rattle.impactc_core.specs.declared.success.Success.{Success}
 use Rattle.impactc_core.specs.declared.success.Success.TheVariants.{Ended, Faulted}
 
 abbrev pub source_text : SourceFault → List ℕ
+source_text (Lexical BadByte) = codes "bad byte"
+source_text (Lexical OpenComment) = codes "open comment"
+source_text (Lexical BadLiteral) = codes "bad literal"
 source_text NotInThisVersion = codes "not in this version"
 
 abbrev pub limit_text : Limit → List ℕ

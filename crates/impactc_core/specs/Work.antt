@@ -5,16 +5,19 @@ use Rattle.ib_base.specs.World.{World, HasFile, Begins, noted}
 use Rattle.wide_core.specs.declared.code.RawCode.{RawCode}
 use Rattle.wide_core.specs.Meaning.{wide_meaning}
 use Rattle.first_form.specs.declared.program.Program.{Program}
-use Rattle.first_form.specs.FirstForm.{IsFirstForm}
 use Rattle.first_form.specs.Meaning.{source_meaning}
 use Rattle.first_code.specs.Plain.{IsPlain as IsPlainCode}
 use Rattle.impactc_core.specs.declared.core_err.CoreErr.{CoreErr}
 use Rattle.impactc_core.specs.declared.core_err.CoreErr.TheVariants.{Source, HostFault as Host, NoMemory as Memory, TooLarge as Large}
 use Rattle.impactc_core.specs.declared.core_err.Limit.TheVariants.{Source as SourceBytes}
+use Rattle.impactc_core.specs.declared.core_err.SourceFault.TheVariants.{Lexical}
+use Rattle.c_ast.specs.declared.fault.LexFault.TheVariants as lex_fault
+use Rattle.c_lex.specs.declared.error.LexErr.{LexErr}
+use Rattle.c_lex.specs.declared.error.LexErr.TheVariants.{BadByte, OpenComment, BadLiteral, NoMemory as OutOfMemory}
 use Rattle.impactc_core.specs.declared.status.Status.{Status}
 use Rattle.impactc_core.specs.declared.status.Status.TheVariants.{HostFault, NoMemory}
 use Rattle.impactc_core.specs.declared.success.Success.{Success}
-use Rattle.impactc_core.specs.Answers.{IsPlain}
+use Rattle.impactc_core.specs.Answers.{IsPlain, HasProgram, HasFault}
 use Rattle.impactc_core.specs.Notes.{refusal_note, status_of, note_of}
 use Rattle.wide_sim.specs.Simulated.{Finishes}
 use Rattle.impactc_core.specs.Runs.{PrintsPartOf, finish_of, cycles_of}
@@ -77,14 +80,20 @@ pub record Leaves (whole : List ℕ) (status : Status) (old new : World) (result
 -- a source's program was run to its end
 pub record RunsSource (bytes : List ℕ) (success : Success) (old new : World) : Type 0 where
   pub program : Program
-  pub form : IsFirstForm bytes program
+  pub form : HasProgram bytes program
   pub runs : RunsProgram program success old new
 
--- Why a source was not run to its end: it is in no form of this version, and then nothing changed; or the run of its program
--- broke off; or it was not run for want of memory.
+-- Why a source was not run to its end: it is refused, and then nothing changed; or the run of its program broke off; or it
+-- was not run for want of memory.
 abbrev pub RefusesSource : (file bytes : List ℕ) → CoreErr → (old new : World) → Type 0
-RefusesSource file bytes (Source name place fault) old new =
-    (name ≡ file) × (place ≡ record { line = 1; col = 1 }) × ((program : Program) → IsFirstForm bytes program → ⊥) × (new ≡ old)
-RefusesSource file bytes Host old new = (program : Program) × IsFirstForm bytes program × PrintsPartOf (source_meaning program) old new
-RefusesSource file bytes Memory old new = (new ≡ old) ⊎ ((program : Program) × IsFirstForm bytes program × PrintsPartOf (source_meaning program) old new)
+RefusesSource file bytes (Source name place reason) old new = (name ≡ file) × HasFault bytes place reason × (new ≡ old)
+RefusesSource file bytes Host old new = (program : Program) × HasProgram bytes program × PrintsPartOf (source_meaning program) old new
+RefusesSource file bytes Memory old new = (new ≡ old) ⊎ ((program : Program) × HasProgram bytes program × PrintsPartOf (source_meaning program) old new)
 RefusesSource file bytes refusal old new = ⊥
+
+-- the lexer's refusal of a file
+abbrev pub lexical_refusal : List ℕ → LexErr → CoreErr
+lexical_refusal file (BadByte place) = Source file place (Lexical lex_fault.BadByte)
+lexical_refusal file (OpenComment place) = Source file place (Lexical lex_fault.OpenComment)
+lexical_refusal file (BadLiteral place) = Source file place (Lexical lex_fault.BadLiteral)
+lexical_refusal file OutOfMemory = Memory

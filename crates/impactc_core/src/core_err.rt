@@ -1,10 +1,13 @@
 use crate::FileName;
+use c_ast::LexFault;
 use ib_base::Place;
 use std::fmt;
 
 /// Why a source is refused.
 #[derive(Clone, Copy, Debug)]
 pub enum SourceFault {
+    /// At the place no part of a source stands.
+    Lexical(LexFault),
     /// The source has a form that this version does not compile.
     NotInThisVersion,
 }
@@ -40,6 +43,9 @@ impl fmt::Display for SourceFault {
 
     fn fmt<W: fmt::Write>(&self, f: &mut fmt::Formatter<W>) -> fmt::Result {
         match self {
+            SourceFault::Lexical(LexFault::BadByte) => f.write_str("bad byte"),
+            SourceFault::Lexical(LexFault::OpenComment) => f.write_str("open comment"),
+            SourceFault::Lexical(LexFault::BadLiteral) => f.write_str("bad literal"),
             SourceFault::NotInThisVersion => f.write_str("not in this version"),
         }
     }

@@ -2,7 +2,7 @@ ghost use Rattle.std.specs.Prelude.{◌≡◌, true, ℕ, ◌≤◌, List, lengt
 ghost use Rattle.ib_meaning.specs.Agreement.{IsOver};
 ghost use Rattle.ib_base.specs.World.{LacksFile};
 ghost use Rattle.first_code.specs.Made.{IsShort};
-ghost use Rattle.first_form.specs.FirstForm.{IsFirstForm};
+ghost use Rattle.c_ast.specs.Cut.{AreTokens};
 ghost use Rattle.first_form.specs.Meaning.{source_meaning};
 ghost use Rattle.wide_core.specs.Meaning.{wide_meaning};
 ghost use Rattle.wide_sim.specs.Fits.{fits};
@@ -10,9 +10,11 @@ ghost use Rattle.wide_sim.specs.Simulated.{Finishes};
 ghost use Rattle.impactc_core.specs.Answers.{IsSource, IsCaused, Works, RunAnswer, MayChange};
 ghost use Rattle.impactc_core.specs.Notes.{status_of, note_of};
 ghost use Rattle.impactc_core.specs.Runs.{PrintsPartOf, finish_of, cycles_of};
-ghost use Rattle.impactc_core.specs.Work.{IsReadErr, IsBreak, RunsProgram, RunsSource, RefusesSource};
+ghost use Rattle.impactc_core.specs.Work.{IsReadErr, IsBreak, RunsProgram, RunsSource, RefusesSource, lexical_refusal};
 
 use crate::{Command, CoreErr, FileName, Limit, SourceFault, Success};
+use c_ast::{LexFault, Token};
+use c_lex::{LexErr, lex};
 use first_code::make;
 use first_form::{Program, ReadErr, read};
 use ib_base::{Host, HostErr, Place};
@@ -114,8 +116,54 @@ fn run_program<H: Host>(alloc: Global, program: &Program, host: &mut H) -> Resul
     }
 }
 
-/// Compiles a source and runs its program.
+/// The refusal of a file that has no tokens.
+fn lexical_refusal(file: FileName, refusal: LexErr) -> CoreErr
+    ensures { result ≡ lexical_refusal file refusal }
+{
+    let (place, fault) = match refusal {
+        LexErr::BadByte(place) => (place, LexFault::BadByte),
+        LexErr::OpenComment(place) => (place, LexFault::OpenComment),
+        LexErr::BadLiteral(place) => (place, LexFault::BadLiteral),
+        LexErr::NoMemory => return CoreErr::NoMemory,
+    };
+    CoreErr::Source {
+        file,
+        place,
+        fault: SourceFault::Lexical(fault),
+    }
+}
+
+/// Compiles a source with these tokens and runs its program.
 #[tactic(auto, using(crate::proofs::Working::short_program, crate::proofs::Working::runs_source, crate::proofs::Working::refuses_broken))]
+fn run_tokens<H: Host>(
+    alloc: Global,
+    file: FileName,
+    bytes: &[u8],
+    tokens: &[Token],
+    host: &mut H,
+) -> Result<Success, CoreErr>
+    requires { AreTokens bytes.now tokens.now }
+    ensures ran { IfOk result (λ success. RunsSource bytes.now success (H.world host.old)
+        (H.world host.new)) }
+    ensures refused { IfErr result (λ refusal. RefusesSource file bytes.now refusal
+        (H.world host.old) (H.world host.new)) }
+    ensures cause { IsCaused (H.faults host.old) (H.faults host.new)
+        (IsErrOf result CoreErr.HostFault) }
+    ensures still_sure { H.sure host.old → H.sure host.new }
+    ensures never { H.sure host.old → IsErrOf result CoreErr.HostFault → ⊥ }
+{
+    match read(alloc, bytes, tokens) {
+        Ok(program) => run_program(alloc, &program, host),
+        Err(ReadErr::NotFirstForm) => Err(CoreErr::Source {
+            file,
+            place: Place { line: 1, col: 1 },
+            fault: SourceFault::NotInThisVersion,
+        }),
+        Err(ReadErr::NoMemory) => Err(CoreErr::NoMemory),
+    }
+}
+
+/// Cuts a source into tokens, compiles it and runs its program.
 fn run_source<H: Host>(
     alloc: Global,
     file: FileName,
@@ -132,14 +180,9 @@ fn run_source<H: Host>(
     ensures still_sure { H.sure host.old → H.sure host.new }
     ensures never { H.sure host.old → IsErrOf result CoreErr.HostFault → ⊥ }
 {
-    match read(alloc, bytes) {
-        Ok(program) => run_program(alloc, &program, host),
-        Err(ReadErr::NotFirstForm) => Err(CoreErr::Source {
-            file,
-            place: Place { line: 1, col: 1 },
-            fault: SourceFault::NotInThisVersion,
-        }),
-        Err(ReadErr::NoMemory) => Err(CoreErr::NoMemory),
+    match lex(alloc, bytes) {
+        Ok(tokens) => run_tokens(alloc, file, bytes, tokens.as_slice(), host),
+        Err(refusal) => Err(lexical_refusal(file, refusal)),
     }
 }
 

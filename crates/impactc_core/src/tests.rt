@@ -46,6 +46,9 @@ fn runs_programs(rt: HostRuntime) -> Result<(), Fail> {
     let wraps = b"int main(void){int a;a=2147483647;putint(a+1);return a*2-3/2;}";
     let note = b"ended -3 after 36 cycles\n";
     runs(&rt, alloc, wraps, 0, b"-2147483648", note)?;
+    let comments =
+        b"#include <stdio.h>\n/* a\n * comment */ int main(void)//{\n{return 1/**/-/***/-2;}";
+    runs(&rt, alloc, comments, 0, b"", b"ended 3 after 8 cycles\n")?;
     runs(
         &rt,
         alloc,
@@ -70,9 +73,14 @@ fn refuses_other_sources(rt: HostRuntime) -> Result<(), Fail> {
         "int main(void){int while;return 0;}",
         "int main(void){return 2147483648;}",
         "int main(void){return 01;}",
+        "int main(void){return 0x1;}",
+        "int main(void){return 1L;}",
+        "int main(void){int _Bool;}",
+        "int main(void){int register;}",
+        "int main(void){return 'a';}",
         "int main(void){return 1--2;}",
         "int main(void){return (1);}",
-        "int main(void){return 1;/* */}",
+        "int main(void){return 6//2;}",
         "int main(void){return 1;}}",
         "char main(void){return 1;}",
     ] {
@@ -83,6 +91,26 @@ fn refuses_other_sources(rt: HostRuntime) -> Result<(), Fail> {
     let spaces = vec![in alloc; 32u8; 1_048_577]?;
     let note = b"too large: source 1048576\n";
     runs(&rt, alloc, spaces.as_slice(), 8, b"", note)?;
+    Ok(())
+}
+
+#[test]
+fn refuses_sources_without_tokens(rt: HostRuntime) -> Result<(), Fail> {
+    let alloc = rt.alloc();
+    for (source, note) in [
+        ("/* x", "F:1:1: open comment\n"),
+        ("08", "F:1:1: bad literal\n"),
+        (
+            "int main(void){\n  return 'ab';\n}",
+            "F:2:10: bad literal\n",
+        ),
+        ("int main(void){return 1;}\n\"a\n\"", "F:2:1: bad literal\n"),
+        ("int main(void){return 1;\u{b7}}", "F:1:25: bad byte\n"),
+        ("int x; #include <stdio.h>\n", "F:1:8: bad byte\n"),
+        ("@ 08 /*", "F:1:1: bad byte\n"),
+    ] {
+        runs(&rt, alloc, source.as_bytes(), 3, b"", note.as_bytes())?;
+    }
     Ok(())
 }
 

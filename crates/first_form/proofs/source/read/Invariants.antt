@@ -1,9 +1,6 @@
-use Rattle.std.proofs.Common.{length}
-use Rattle.first_form.proofs.ScanLemmas.{Follows}
+use Rattle.std.proofs.Common.{drop}
+use Rattle.first_form.proofs.ReadLemmas.{Follows}
 use Rattle.first_form.proofs.source.read.Given as goal
 
-abbrev pub invariant-words : goal.invariant-words
-invariant-words l = Follows l.bytes l.scan
-
-abbrev pub decreases-words : goal.decreases-words
-decreases-words l = length l.scan.rest
+abbrev pub invariant-loop-token : goal.invariant-loop-token
+invariant-loop-token l = Follows l.source l.tokens (drop l.token-index l.tokens) l.reader

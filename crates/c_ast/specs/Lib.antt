@@ -4,3 +4,8 @@ pub mod Bytes
 pub mod Literals
 pub mod Pieces
 pub mod Cut
+pub mod Trees
+pub mod GrammarTokens
+pub mod Grammar
+pub mod TreeViews
+pub mod Nesting

@@ -1,0 +1,11 @@
+mod Tokens
+mod Complete
+mod Starts
+mod Expressions
+mod Declarations
+mod Statements
+mod Viable
+mod Derives
+mod Sound
+mod Sounder
+mod Answered

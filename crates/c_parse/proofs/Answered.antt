@@ -5,8 +5,8 @@ use Rattle.c_ast.specs.Trees.{Top}
 use Rattle.c_ast.specs.Grammar.{IsUnit, BeginsUnit}
 use Rattle.c_parse.specs.Machine.{items, run}
 use Rattle.c_parse.specs.Parses.{IsOnlyUnit, IsWrongAt}
-use Rattle.c_parse.proofs.Statements.{complete}
-use Rattle.c_parse.proofs.Sounder.{sound}
+use Rattle.c_parse.proofs.StatementLemmas.{complete}
+use Rattle.c_parse.proofs.SoundStates.{sound}
 use Rattle.c_parse.proofs.Viable.{stuck, Stuck}
 
 take_front : (xs ys : List Token) → take (length xs) (xs ++ ys) ≡ xs

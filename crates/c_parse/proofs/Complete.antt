@@ -1,8 +1,7 @@
 -- What is an expression takes the machine past it.
-use Rattle.std.proofs.Common.{◌≡◌, ◌≢◌, ℕ, suc, ◌+◌, ◌<◌, ◌≤◌, List, [], ◌∷◌, ◌++◌, length, Some, None, Err, Bool, true, false, refl, sym, ◌∙◌, ap, arith, append_assoc, ◌&&◌, subst, inl, inr, lit<}
+use Rattle.std.proofs.Common.{◌≡◌, ◌≢◌, ℕ, suc, ◌+◌, ◌<◌, ◌≤◌, List, [], ◌∷◌, ◌++◌, length, Some, None, Err, Bool, true, false, refl, sym, ◌∙◌, ap, arith, ◌&&◌, inl, inr}
 use Rattle.std.specs.Prelude.{Result, Option, nat_lt, ◌||◌, if◌then◌else◌}
 use Rattle.std.proofs.lemmas.Bool.Decides.{leb_tells}
-use Rattle.std.proofs.lemmas.Bool.{le-leb, false≢true}
 use Rattle.ib_meaning.specs.declared.place.Place.{Place}
 use Rattle.c_ast.specs.declared.mark.Mark.{Mark}
 use Rattle.c_ast.specs.declared.mark.Mark.TheVariants as m
@@ -12,15 +11,14 @@ use Rattle.c_ast.specs.declared.token.Tok.TheVariants as t
 use Rattle.c_ast.specs.declared.token.Token.{Token}
 use Rattle.c_ast.specs.declared.tree.Base.{Base}
 use Rattle.c_ast.specs.declared.tree.UnaryOp.{UnaryOp}
-use Rattle.c_ast.specs.declared.tree.PostfixOp.{PostfixOp}
 use Rattle.c_ast.specs.declared.tree.BinaryOp.{BinaryOp}
 use Rattle.c_ast.specs.declared.tree.AssignOp.{AssignOp}
-use Rattle.c_ast.specs.GrammarTokens.{IsMark, IsWord, mark_of, binary_mark, binary_op, level, assign_mark, assign_op, step_mark, step_op, prefix_mark, prefix_op, postfix_mark, postfix_op}
-use Rattle.c_ast.specs.Trees.{Ty, plain, pointer, Exp, name, call, unary, cast, binary, conditional, assign, comma, exps, Top}
+use Rattle.c_ast.specs.GrammarTokens.{IsMark, mark_of, binary_op, level, assign_op, postfix_mark, postfix_op}
+use Rattle.c_ast.specs.Trees.{Ty, plain, pointer, Exp, unary, cast, binary, conditional, assign, comma, exps, Top}
 use Rattle.c_ast.specs.Grammar as g
 use Rattle.c_parse.specs.Signs.{is, says, is_type}
-use Rattle.c_parse.specs.Machine.{Frames, prefix, cast_to, cond, right, assigned, middle, other, first, list, parens, subscript, arg, part, tested, init_value, element, Use, a_cast, State, typed, after_long, operand, paren, called, opened, have, shut, begins_assign, begins_expr, begin_type, choose, if_tighter, follow, go_on, step, finish, ended, run}
-use Rattle.c_parse.proofs.Tokens.{is_true, not_true, none≢some, some≢none, op_is_not, not_assign, not_step, low_level}
+use Rattle.c_parse.specs.Machine.{Frames, prefix, cast_to, cond, right, assigned, middle, other, first, list, parens, subscript, arg, part, tested, init_value, element, Use, State, typed, after_long, have, shut, begin_type, if_tighter, follow, go_on, step, finish, ended, run}
+use Rattle.c_parse.proofs.Tokens.{is_true, not_true, not_assign, low_level}
 
 -- how tightly a token binds what stands before it to what follows; 0 where it ends an expression
 abbrev other_binds : Token → ℕ
@@ -234,4 +232,3 @@ stars (g.star {s} {ty} {ts} e r) why b = takes (typed why b ty) (typed why b (po
 pub stars_head : {ty full : Ty} {ts rest : List Token} → g.Stars ty ts rest full → Heads (λ tok. says k.Int tok ≡ false) rest → Heads (λ tok. says k.Int tok ≡ false) ts
 stars_head g.no_star h = h
 stars_head (g.star e r) h = rw e refl
-

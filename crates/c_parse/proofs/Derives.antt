@@ -16,7 +16,7 @@ use Rattle.c_ast.specs.GrammarTokens.{IsMark, IsWord, IsName, IsNumber, binary_o
 use Rattle.c_ast.specs.Trees.{Ty, plain, Exp, name, call, index, unary, cast, binary, conditional, assign, comma, exps, Initial, value, elements, Decl, declarator, unnamed, named, Par, param, Maybe, given, Start, start_expr, start_local, Stm, block, if_then, if_else, while_loop, do_while, for_loop, return, local, stms, closed, Top, variables}
 use Rattle.c_ast.specs.Grammar as g
 use Rattle.c_parse.specs.Machine.{Head, head, Outer, braces, body, then_arm, else_arm, while_body, do_body, for_body, Inside, in_braces, in_body, Target, top, global, in_block, in_for, Declaring, declaring, Made, Role, as_statement, as_value, as_first, as_second, as_third, Test, as_if, as_while, as_do, Frames, part, tested, init_value, element, prefix, cast_to, cond, right, assigned, middle, other, first, list, parens, subscript, arg, Use, a_declarator, a_parameter, a_cast, Sizing, of_declarator, of_parameter, State, items, after_long, typed, named_at, sizes, size_open, size_given, sized, init_open, element_next, declared, params_open, params_void, param_next, params_done, inside, stmt, after, test, awaits, semi, for_open, for_start, operand, paren, called, opened, have, shut, with_stm, with_decl, with_init, with_param, with_prototype, with_function, closer, statement}
-use Rattle.c_parse.proofs.Declarations.{with_params}
+use Rattle.c_parse.proofs.DeclarationLemmas.{with_params}
 
 -- a first token, and what follows it
 pub data Led (P : Token → List Token → Type 0) : List Token → Type 0 where

@@ -1,11 +1,11 @@
 mod Tokens
 mod Complete
 mod Starts
-mod Expressions
-mod Declarations
-mod Statements
+mod ExpressionLemmas
+mod DeclarationLemmas
+mod StatementLemmas
 mod Viable
 mod Derives
 mod Sound
-mod Sounder
+mod SoundStates
 mod Answered

@@ -5,19 +5,18 @@ use Rattle.std.proofs.lemmas.Bool.{false≢true}
 use Rattle.std.proofs.lemmas.Bool.Decides.{leb_tells}
 use Rattle.ib_meaning.specs.declared.place.Place.{Place}
 use Rattle.c_ast.specs.declared.mark.Mark.TheVariants as m
-use Rattle.c_ast.specs.declared.keyword.Keyword.TheVariants as k
 use Rattle.c_ast.specs.declared.token.Token.{Token}
 use Rattle.c_ast.specs.declared.tree.BinaryOp.{BinaryOp}
 use Rattle.c_ast.specs.declared.tree.AssignOp.{AssignOp}
 use Rattle.c_ast.specs.declared.tree.Base.{Base}
 use Rattle.c_ast.specs.GrammarTokens.{IsMark, IsName, binary_op, level, assign_op}
-use Rattle.c_ast.specs.Trees.{Ty, plain, declarator, Exp, call, index, unary, cast, binary, conditional, assign, comma, exps, value, elements, Maybe, missing, given, Decl, Top}
+use Rattle.c_ast.specs.Trees.{Ty, plain, declarator, Exp, call, unary, cast, binary, conditional, assign, comma, exps, value, Maybe, missing, given, Decl, Top}
 use Rattle.c_ast.specs.Grammar as g
 use Rattle.c_parse.specs.Signs.{is}
 use Rattle.c_parse.specs.Machine as M
 use Rattle.c_parse.specs.Machine.{Declaring, declaring, Target, top, global, in_block, in_for, no_function, of_declarator, Made, Role, as_statement, as_value, as_first, as_second, as_third, Test, as_if, as_while, as_do, Frames, part, tested, init_value, element, prefix, cast_to, right, assigned, middle, other, first, list, parens, subscript, arg, a_declarator, State, choose, begins_assign, begins_expr, with_init, closer, goes_on, passed, step_declared, assign_if, if_tighter, follow, go_on}
 use Rattle.c_parse.proofs.Tokens.{is_true, none≢some, some≢none, low_level}
-use Rattle.c_parse.proofs.Derives.{Led, led, By, Climb, here, op, Follows, NewStmt, Goes, Passed, Sizes, EndDeclaration, Declared, MoreElements, Chooses, Indexed, Past, Typed, Opens, NamedAt, AfterType, Operand, Derives, Derived}
+use Rattle.c_parse.proofs.Derives.{Led, led, By, Climb, here, op, Goes, Passed, Sizes, EndDeclaration, Declared, Chooses, Indexed, Past, Typed, Operand, Derives, Derived}
 
 -- operators one after the other are of their levels
 tail_snoc : {n : ℕ} {a x b : Exp} {ts m mid rest : List Token} {s : Token} {o : BinaryOp} → g.Tail n a ts m x → m ≡ s ∷ mid → binary_op s ≡ Some o → level o ≡ n → g.Level (suc n) mid rest b → g.Tail n a ts rest (binary s.place o x b)
@@ -104,9 +103,12 @@ pub to_declarators : (target : Target) (b : Base) (ds : List Decl) (u : List Top
     Sizes (of_declarator (declaring target b ds) w.place ty n) mid u → (es : List Decl) × (rest : List Token) × g.Declarators b ts rest es × EndDeclaration target (ds ++ es) rest u
 to_declarators target b ds u {w} {n} {ty} st q (l, m3, ln, (i, m4, ini, inl (led {rest} (e, d)))) =
     (declarator w.place ty n l i ∷ [], rest, g.last_declarator (g.declares st q ln ini) e, d)
-to_declarators target b ds u {w} {n} {ty} st q (l, m3, ln, (i, m4, ini, inr (led (e, (es, rest, more, d))))) =
-    (declarator w.place ty n l i ∷ es, rest, g.a_declarator (g.declares st q ln ini) e more,
-     subst (λ z. EndDeclaration target z rest u) (append_assoc ds (declarator w.place ty n l i ∷ []) es) d)
+to_declarators target b ds u {w} {n} {ty} st q (l, m3, ln, (i, m4, ini, inr (led (e, (es, rest, more, d))))) = (
+  declarator w.place ty n l i ∷ es,
+  rest,
+  g.a_declarator (g.declares st q ln ini) e more,
+  subst (λ z. EndDeclaration target z rest u) (append_assoc ds (declarator w.place ty n l i ∷ []) es) d,
+)
 
 behind_comma : (target : Target) (b : Base) (ds : List Decl) (ts : List Token) (u : List Top) → Typed (a_declarator (no_function target) ds) b (plain b) ts u →
     (es : List Decl) × (rest : List Token) × g.Declarators b ts rest es × EndDeclaration target (ds ++ es) rest u

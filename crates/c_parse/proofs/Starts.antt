@@ -1,6 +1,6 @@
 -- The tokens with which an expression may begin.
 use Rattle.std.proofs.Common.{◌≡◌, ℕ, ◌+◌, List, [], ◌∷◌, length, Some, None, Err, Bool, true, false, refl, sym, ◌∙◌, ap}
-use Rattle.std.specs.Prelude.{Result, Option, ◌||◌}
+use Rattle.std.specs.Prelude.{Result}
 use Rattle.std.proofs.lemmas.Bool.{false≢true}
 use Rattle.ib_meaning.specs.declared.place.Place.{Place}
 use Rattle.c_ast.specs.declared.mark.Mark.{Mark}
@@ -17,7 +17,6 @@ use Rattle.c_ast.specs.Grammar as g
 use Rattle.c_parse.specs.Signs.{is, says, is_type}
 use Rattle.c_parse.specs.Machine.{Outer, State, stmt_word, stmt_kind, step, run}
 use Rattle.c_parse.proofs.Tokens.{is_true, says_true, not_true, none≢some}
-use Rattle.c_parse.proofs.Complete.{Heads}
 
 abbrev starts_mark : Mark → Bool
 starts_mark m.LeftParen = true

@@ -1,7 +1,7 @@
 -- What the tests of single tokens say.
-use Rattle.std.proofs.Common.{◌≡◌, ◌≢◌, ℕ, suc, ◌+◌, ◌<◌, List, [], ◌∷◌, Some, None, Bool, true, false, refl, sym, ◌∙◌, ap, arith, subst, get_or, ◌⊎◌, inl, inr}
+use Rattle.std.proofs.Common.{◌≡◌, ◌+◌, ◌<◌, List, [], ◌∷◌, Some, None, Bool, true, false, refl, sym, ◌∙◌, ap, arith, get_or}
 use Rattle.std.specs.Prelude.{Option}
-use Rattle.std.proofs.lemmas.Bool.{false≢true, eqb-true}
+use Rattle.std.proofs.lemmas.Bool.{eqb-true}
 use Rattle.c_ast.specs.declared.mark.Mark.{Mark}
 use Rattle.c_ast.specs.declared.mark.Mark.TheVariants as m
 use Rattle.c_ast.specs.declared.keyword.Keyword.{Keyword}
@@ -12,11 +12,10 @@ use Rattle.c_ast.specs.declared.token.Token.{Token}
 use Rattle.c_ast.specs.declared.tree.UnaryOp.{UnaryOp}
 use Rattle.c_ast.specs.declared.tree.BinaryOp.{BinaryOp}
 use Rattle.c_ast.specs.declared.tree.BinaryOp.TheVariants as b
-use Rattle.c_ast.specs.declared.tree.AssignOp.{AssignOp}
 use Rattle.c_ast.specs.Marks.{mark_number}
 use Rattle.c_ast.specs.Keywords.{keyword_number}
-use Rattle.c_ast.specs.GrammarTokens.{IsMark, IsWord, mark_of, binary_mark, binary_op, level, assign_mark, assign_op, step_mark, step_op, prefix_mark, prefix_op, postfix_mark, postfix_op}
-use Rattle.c_parse.specs.Signs.{sign, is, says, is_type}
+use Rattle.c_ast.specs.GrammarTokens.{IsMark, IsWord, mark_of, binary_mark, binary_op, level, assign_mark, assign_op, step_mark, step_op, prefix_mark, prefix_op}
+use Rattle.c_parse.specs.Signs.{sign, is, says}
 
 marks : List Mark
 marks = m.LeftParen ∷ m.RightParen ∷ m.LeftBracket ∷ m.RightBracket ∷ m.LeftBrace ∷ m.RightBrace ∷ m.Comma ∷ m.Semicolon ∷ m.Question ∷ m.Colon

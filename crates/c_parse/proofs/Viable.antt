@@ -14,12 +14,12 @@ use Rattle.c_ast.specs.declared.tree.Base.TheVariants as base
 use Rattle.c_ast.specs.declared.tree_unit.Length.{Length}
 use Rattle.c_ast.specs.declared.tree_unit.Length.TheVariants as len
 use Rattle.c_ast.specs.GrammarTokens.{level}
-use Rattle.c_ast.specs.Trees.{Ty, plain, Exp, name, number, call, index, unary, cast, binary, conditional, assign, comma, exps, no_init, value, elements, Decl, declarator, unnamed, param, Maybe, missing, given, Start, start_expr, start_local, Stm, block, empty, if_then, if_else, while_loop, do_while, for_loop, return, local, stms, Top}
+use Rattle.c_ast.specs.Trees.{Ty, plain, Exp, name, number, call, index, unary, cast, binary, conditional, assign, comma, exps, no_init, value, elements, Decl, declarator, unnamed, param, Maybe, missing, given, Start, start_expr, start_local, Stm, block, empty, if_else, while_loop, do_while, for_loop, return, local, stms, Top}
 use Rattle.c_parse.specs.Signs.{is}
-use Rattle.c_parse.specs.Machine.{Head, head, Outer, braces, body, then_arm, else_arm, while_body, do_body, for_body, Inside, in_braces, in_body, Target, top, global, in_block, in_for, Declaring, declaring, Made, made, Role, as_statement, as_value, as_first, as_second, as_third, Test, as_if, as_while, as_do, Frames, part, tested, init_value, element, prefix, cast_to, cond, right, assigned, middle, other, first, list, parens, subscript, arg, Use, a_declarator, a_parameter, a_cast, Sizing, of_declarator, of_parameter, State, items, after_long, typed, named_at, sizes, size_open, size_given, sized, init_open, element_next, declared, params_open, params_void, param_next, params_done, inside, stmt, after, test, awaits, semi, for_open, for_start, operand, paren, called, opened, have, begins_expr, with_stm, with_decl, with_init, with_param, with_prototype, with_function, close, end_declaration, statement, goes_on, passed, step, finish, ended, run}
-use Rattle.c_parse.proofs.Complete.{binds, no_open, Heads, heads, Stops, stops_more, takes, fall_prefix, fall_cast, fall_assigned, fall_other, fall_first, fall_list, fall_cond, fall_right}
-use Rattle.c_parse.proofs.Expressions.{no_call}
-use Rattle.c_parse.proofs.Statements.{fall_else, fall_while, fall_for}
+use Rattle.c_parse.specs.Machine.{Head, Outer, braces, body, then_arm, else_arm, while_body, do_body, for_body, Inside, in_braces, in_body, Target, top, global, in_block, in_for, Declaring, declaring, made, Role, as_statement, as_value, as_first, as_second, as_third, Test, as_if, as_while, as_do, Frames, part, tested, init_value, element, prefix, cast_to, cond, right, assigned, middle, other, first, list, parens, subscript, arg, Use, a_declarator, a_parameter, a_cast, Sizing, of_declarator, of_parameter, State, items, after_long, typed, named_at, sizes, size_open, size_given, sized, init_open, element_next, declared, params_open, params_void, param_next, params_done, inside, stmt, after, test, awaits, semi, for_open, for_start, operand, paren, called, opened, have, begins_expr, with_stm, with_init, with_param, with_prototype, with_function, end_declaration, statement, goes_on, passed, step, finish, ended, run}
+use Rattle.c_parse.proofs.Complete.{binds, no_open, heads, Stops, stops_more, takes, fall_prefix, fall_cast, fall_assigned, fall_other, fall_first, fall_list, fall_cond, fall_right}
+use Rattle.c_parse.proofs.ExpressionLemmas.{no_call}
+use Rattle.c_parse.proofs.StatementLemmas.{fall_else, fall_while, fall_for}
 
 -- The tokens lead from the state to a unit.
 pub record Ends (s : State) : Type 0 where

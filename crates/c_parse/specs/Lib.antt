@@ -1,4 +1,3 @@
 pub mod Signs
 pub mod Machine
 pub mod Parses
-pub mod Views

@@ -278,7 +278,7 @@ abbrev pub begin : Bool → Frames → Token → Option State
 begin casts σ tok =
     if is m.LeftParen tok then Some (paren casts tok.place σ)
     else choose (step_op tok) (λ op. Some (operand false (prefix tok.place op σ)))
-        (choose (prefix_op tok) (λ op. Some (operand true (prefix tok.place op σ))) (begin_leaf tok.kind tok.place σ))
+    (choose (prefix_op tok) (λ op. Some (operand true (prefix tok.place op σ))) (begin_leaf tok.kind tok.place σ))
 
 abbrev pub begin_expr : Frames → Token → Option State
 begin_expr σ tok = begin true (begins_expr σ) tok
@@ -304,8 +304,8 @@ follow a (prefix p op σ) tok = follow (unary p op a) σ tok
 follow a (cast_to p ty σ) tok = follow (cast p ty a) σ tok
 follow a (cond opens σ) tok =
     choose (assign_if opens tok) (λ op. Some (operand true (begins_assign (assigned tok.place op a σ))))
-        (if is m.Question tok then Some (operand true (begins_expr (middle tok.place a σ)))
-        else choose (binary_op tok) (λ op. Some (operand true (right tok.place op a (cond false σ)))) (follow a σ tok))
+    (if is m.Question tok then Some (operand true (begins_expr (middle tok.place a σ)))
+    else choose (binary_op tok) (λ op. Some (operand true (right tok.place op a (cond false σ)))) (follow a σ tok))
 follow b (right p op a σ) tok =
     choose (if_tighter op (binary_op tok)) (λ next. Some (operand true (right tok.place next b (right p op a σ)))) (follow (binary p op a b) σ tok)
 follow b (assigned p op a σ) tok = follow (assign p op a b) σ tok
@@ -344,10 +344,12 @@ abbrev pub stmt_kind : Tok → Place → Outer → Option State
 stmt_kind (t.Word word) p i = stmt_word word p i
 stmt_kind _ p i = None
 
+-- a statement that is no keyword's
+abbrev pub begin_other : Outer → Token → Option State
+begin_other i tok = if is m.LeftBrace tok then Some (inside (in_braces tok.place [] i)) else step_awaits (as_statement tok.place i) tok
+
 abbrev pub begin_stmt : Outer → Token → Option State
-begin_stmt i tok =
-    choose (stmt_kind tok.kind tok.place i) (λ s. Some s)
-        (if is m.LeftBrace tok then Some (inside (in_braces tok.place [] i)) else step_awaits (as_statement tok.place i) tok)
+begin_stmt i tok = choose (stmt_kind tok.kind tok.place i) (λ s. Some s) (begin_other i tok)
 
 abbrev pub step_inside : Inside → Token → Option State
 step_inside b tok =

@@ -1,7 +1,6 @@
 //! From tokens to the tree that they spell.
 #![tactic(auto)]
 
-mod frames;
 mod parse;
 mod signs;
 

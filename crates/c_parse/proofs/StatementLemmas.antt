@@ -1,6 +1,6 @@
 -- What is a statement or an item takes the machine past it.
-use Rattle.std.proofs.Common.{◌≡◌, ℕ, suc, ◌+◌, ◌<◌, List, [], ◌∷◌, ◌++◌, length, Some, None, Ok, Err, Bool, true, false, refl, sym, ◌∙◌, ap, arith, append_assoc, subst}
-use Rattle.std.specs.Prelude.{Result, Option, ◌==◌}
+use Rattle.std.proofs.Common.{◌≡◌, ℕ, ◌+◌, List, [], ◌∷◌, ◌++◌, length, Some, None, Ok, Err, true, false, refl, sym, ◌∙◌, ap, arith, append_assoc, subst}
+use Rattle.std.specs.Prelude.{Result, ◌==◌}
 use Rattle.std.proofs.lemmas.Bool.{false≢true}
 use Rattle.std.proofs.lemmas.Bool.Decides.{eqb_tells}
 use Rattle.std.proofs.Common.{inl, inr}
@@ -13,15 +13,15 @@ use Rattle.c_ast.specs.declared.token.Token.{Token}
 use Rattle.c_ast.specs.declared.tree.Base.{Base}
 use Rattle.c_ast.specs.declared.tree.Base.TheVariants as base
 use Rattle.c_ast.specs.Marks.{mark_number}
-use Rattle.c_ast.specs.GrammarTokens.{IsMark, IsWord}
-use Rattle.c_ast.specs.Trees.{Ty, plain, Exp, Decl, Maybe, missing, given, Start, start_expr, Stm, block, empty, expression, if_then, if_else, while_loop, do_while, for_loop, break, continue, return, local, stms, closed, Top, prototype, function, variables}
+use Rattle.c_ast.specs.GrammarTokens.{IsMark}
+use Rattle.c_ast.specs.Trees.{plain, Exp, Decl, Maybe, missing, given, Start, Stm, empty, expression, if_then, if_else, while_loop, do_while, for_loop, break, continue, local, closed, Top, prototype}
 use Rattle.c_ast.specs.Grammar as g
 use Rattle.c_parse.specs.Signs.{sign, is, says, is_type}
-use Rattle.c_parse.specs.Machine.{Head, head, Outer, braces, body, then_arm, else_arm, while_body, do_body, for_body, Inside, in_braces, in_body, top, in_block, in_for, declaring, Role, as_statement, as_value, as_first, as_second, as_third, Test, as_if, as_while, as_do, part, tested, a_declarator, State, items, typed, named_at, params_open, params_done, inside, stmt, after, test, awaits, semi, for_open, for_start, operand, have, begins_expr, begin_type, outer_of, with_stm, close, closer, goes_on, passed, step, run}
-use Rattle.c_parse.proofs.Complete.{binds, Heads, heads, each, Stops, alike, takes, on, value_type, stars, stars_head}
+use Rattle.c_parse.specs.Machine.{head, Outer, then_arm, else_arm, while_body, do_body, for_body, Inside, in_braces, in_body, top, in_block, in_for, declaring, Role, as_statement, as_value, as_first, as_second, as_third, Test, as_if, as_while, as_do, part, tested, a_declarator, State, items, typed, named_at, params_open, params_done, inside, stmt, after, test, awaits, semi, for_open, for_start, operand, have, begins_expr, begin_type, outer_of, with_stm, close, closer, goes_on, passed, step, run}
+use Rattle.c_parse.proofs.Complete.{binds, Heads, heads, each, alike, takes, on, value_type, stars, stars_head}
 use Rattle.c_parse.proofs.Starts.{Starts, starts, mark_not, word_not, type_not, stmt_not, expr_starts, alike_at}
-use Rattle.c_parse.proofs.Expressions.{expr}
-use Rattle.c_parse.proofs.Declarations.{declarators, declarators_head, locals, type_no_mark, type_no_void, param_list}
+use Rattle.c_parse.proofs.ExpressionLemmas.{expr}
+use Rattle.c_parse.proofs.DeclarationLemmas.{declarators, declarators_head, locals, type_no_mark, type_no_void, param_list}
 
 -- two states that take the first token alike
 same_step : (s s' : State) (tok : Token) (ts : List Token) → step s tok ≡ step s' tok → run (tok ∷ ts) s ≡ run (tok ∷ ts) s'
@@ -161,7 +161,7 @@ mutual
   statements (g.is_expression {w} {c} {ts} {rest} {x} r e) h i =
       let s = expr_starts r in
       same_step (stmt i) (operand true (begins_expr (part (as_statement w.place i)))) w ts
-        (rw (stmt_not w w.place i s, mark_not m.LeftBrace w refl s, mark_not m.Semicolon w refl s) refl)
+      (rw (stmt_not w w.place i s, mark_not m.LeftBrace w refl s, mark_not m.Semicolon w refl s) refl)
       ∙ expr r (let b : binds c ≡ 0 = rw e refl in omega (arith, b)) (part (as_statement w.place i))
       ∙ takes (have x (part (as_statement w.place i))) (after (expression w.place x) i) c rest (rw e refl)
   statements (g.is_if {w} {o} {c} {ts} {mid} {rest} {x} {a} e q d f r) h i =

@@ -1,6 +1,5 @@
 -- What is a declaration takes the machine past it.
-use Rattle.std.proofs.Common.{◌≡◌, ℕ, suc, ◌+◌, ◌<◌, List, [], ◌∷◌, ◌++◌, length, Some, None, Err, Bool, true, false, refl, sym, ◌∙◌, ap, arith, append_assoc, subst}
-use Rattle.std.specs.Prelude.{Result, Option}
+use Rattle.std.proofs.Common.{◌≡◌, ℕ, ◌<◌, List, [], ◌∷◌, ◌++◌, None, true, false, refl, sym, ◌∙◌, ap, arith, append_assoc}
 use Rattle.std.proofs.lemmas.Bool.{false≢true}
 use Rattle.ib_meaning.specs.declared.place.Place.{Place}
 use Rattle.c_ast.specs.declared.mark.Mark.{Mark}
@@ -10,15 +9,15 @@ use Rattle.c_ast.specs.declared.token.Token.{Token}
 use Rattle.c_ast.specs.declared.tree.Base.{Base}
 use Rattle.c_ast.specs.declared.tree_unit.Length.{Length}
 use Rattle.c_ast.specs.declared.tree_unit.Length.TheVariants as len
-use Rattle.c_ast.specs.GrammarTokens.{IsMark, IsWord, IsName}
-use Rattle.c_ast.specs.Trees.{Ty, plain, Exp, Initial, value, elements, Decl, declarator, ParName, unnamed, named, Par, param, Top}
+use Rattle.c_ast.specs.GrammarTokens.{IsMark, IsName}
+use Rattle.c_ast.specs.Trees.{Ty, plain, Exp, Initial, value, elements, Decl, declarator, unnamed, named, Par, param, Top}
 use Rattle.c_ast.specs.Grammar as g
 use Rattle.c_parse.specs.Signs.{is, says, is_type, name_of}
-use Rattle.c_parse.specs.Machine.{Head, head, Declaring, declaring, Made, made, Target, top, global, in_block, in_for, no_function, Frames, init_value, element, Use, a_declarator, a_parameter, Sizing, of_declarator, of_parameter, State, typed, named_at, sizes, size_open, size_given, sized, init_open, element_next, declared, params_open, params_void, param_next, params_done, operand, have, begins_assign, begin_type, with_decl, with_init, with_param, end_declaration, step_declared, step, run}
-use Rattle.c_parse.proofs.Tokens.{is_true, says_true, not_true, none≢some}
-use Rattle.c_parse.proofs.Complete.{binds, no_open, no_bracket, no_set, Heads, heads, each, Stops, stops_more, alike, takes, on, value_type, stars, stars_head}
-use Rattle.c_parse.proofs.Starts.{Starts, starts, mark_not, assign_starts, alike_at}
-use Rattle.c_parse.proofs.Expressions.{assignment}
+use Rattle.c_parse.specs.Machine.{Head, head, Declaring, declaring, Made, made, Target, top, global, in_block, in_for, no_function, init_value, element, a_declarator, a_parameter, Sizing, of_declarator, of_parameter, State, typed, named_at, sizes, size_open, size_given, sized, init_open, element_next, declared, params_open, params_void, param_next, params_done, operand, have, begins_assign, begin_type, with_decl, with_init, end_declaration, step, run}
+use Rattle.c_parse.proofs.Tokens.{is_true, says_true, not_true}
+use Rattle.c_parse.proofs.Complete.{binds, no_open, no_bracket, no_set, Heads, heads, each, Stops, alike, takes, on, value_type, stars, stars_head}
+use Rattle.c_parse.proofs.Starts.{Starts, mark_not, assign_starts, alike_at}
+use Rattle.c_parse.proofs.ExpressionLemmas.{assignment}
 
 elements_start : {ts rest : List Token} {xs : List Exp} → g.Elements ts rest xs → Starts ts
 elements_start (g.last_element a e) = assign_starts a
@@ -37,7 +36,7 @@ listed {rest} (g.an_element {c} {mid} {x} {xs} a e r) u front =
     assignment a (let b : binds c ≡ 1 = rw e refl in omega (arith, b)) (element u front)
     ∙ takes (have x (element u front)) (element_next u (front ++ x ∷ [])) c mid (rw e refl)
     ∙ alike_at (element_next u (front ++ x ∷ [])) (operand true (begins_assign (element u (front ++ x ∷ [])))) mid (elements_start r)
-        (λ tok h. rw (mark_not m.RightBrace tok refl h) refl)
+    (λ tok h. rw (mark_not m.RightBrace tok refl h) refl)
     ∙ listed r u (front ++ x ∷ []) ∙ ap (λ l. run rest (declared (with_init u (elements l)))) (append_assoc front (x ∷ []) xs)
 
 initialiser : {mid rest : List Token} {i : Initial} → g.Initialiser mid rest i → Stops 2 rest → (d : Declaring) (p : Place) (ty : Ty) (n : List ℕ) (l : Length) →
@@ -82,8 +81,8 @@ a_declared (g.declares {b} {w} {n} {mid} {mid'} {ty} {l} r e s i) q target front
     stars r (a_declarator target front) b
     ∙ takes (typed (a_declarator target front) b ty) (named_at (declaring target b front) w.place ty n) w mid (rw e refl)
     ∙ alike (λ tok. is m.LeftParen tok ≡ false) (named_at (declaring target b front) w.place ty n) (sizes z) refl mid
-        (size_head (λ tok. is m.LeftParen tok ≡ false) (λ o h. rw h refl) s (heads (λ tok. (is m.LeftParen tok ≡ false) × (is m.LeftBracket tok ≡ false)) (λ tok. is m.LeftParen tok ≡ false) (λ tok h. h.0) mid' both))
-        (λ tok h. rw h refl)
+    (size_head (λ tok. is m.LeftParen tok ≡ false) (λ o h. rw h refl) s (heads (λ tok. (is m.LeftParen tok ≡ false) × (is m.LeftBracket tok ≡ false)) (λ tok. is m.LeftParen tok ≡ false) (λ tok h. h.0) mid' both))
+    (λ tok h. rw h refl)
     ∙ length_of s (heads (λ tok. (is m.LeftParen tok ≡ false) × (is m.LeftBracket tok ≡ false)) (λ tok. is m.LeftBracket tok ≡ false) (λ tok h. h.1) mid' both) z
     ∙ initialiser i q (declaring target b front) w.place ty n l
 
@@ -154,8 +153,8 @@ a_param : {ts rest : List Token} {x : Par} → g.Param ts rest x → Heads Endin
     Heads (λ tok. is_type tok ≡ true → step s tok ≡ begin_type (a_parameter tok.place h) tok) ts → run ts s ≡ run rest (behind h x)
 a_param {rest} (g.without_name {w} {b} {mid' = mid} {ty} {l} v r z) e s h f =
     let plain_head : Heads (λ tok. (is m.Star tok ≡ false) × (name_of tok.kind ≡ None) × (says k.Int tok ≡ false)) mid =
-        size_head (λ tok. (is m.Star tok ≡ false) × (name_of tok.kind ≡ None) × (says k.Int tok ≡ false)) a_bracket z
-        (heads Ending (λ tok. (is m.Star tok ≡ false) × (name_of tok.kind ≡ None) × (says k.Int tok ≡ false)) (λ tok q. (q.0, q.1, q.3)) rest e) in
+    size_head (λ tok. (is m.Star tok ≡ false) × (name_of tok.kind ≡ None) × (says k.Int tok ≡ false)) a_bracket z
+    (heads Ending (λ tok. (is m.Star tok ≡ false) × (name_of tok.kind ≡ None) × (says k.Int tok ≡ false)) (λ tok q. (q.0, q.1, q.3)) rest e) in
     let no_int = heads (λ tok. (is m.Star tok ≡ false) × (name_of tok.kind ≡ None) × (says k.Int tok ≡ false)) (λ tok. says k.Int tok ≡ false) (λ tok q. q.2) mid plain_head in
     value_type v (stars_head r no_int) s (a_parameter w.place h) f
     ∙ stars r (a_parameter w.place h) b

@@ -1,25 +1,18 @@
 -- What is an expression takes the machine past it.
-use Rattle.std.proofs.Common.{◌≡◌, ℕ, suc, ◌+◌, ◌<◌, ◌≤◌, List, [], ◌∷◌, ◌++◌, length, Some, None, Err, Bool, true, false, refl, sym, ◌∙◌, ap, arith, append_assoc, subst}
-use Rattle.std.specs.Prelude.{Result, Option, nat_lt}
+use Rattle.std.proofs.Common.{◌≡◌, ℕ, suc, ◌+◌, ◌<◌, List, [], ◌∷◌, ◌++◌, Some, None, Bool, true, false, refl, sym, ◌∙◌, ap, arith, append_assoc, subst}
 use Rattle.std.proofs.lemmas.Bool.{le-leb}
 use Rattle.ib_meaning.specs.declared.place.Place.{Place}
-use Rattle.c_ast.specs.declared.mark.Mark.{Mark}
 use Rattle.c_ast.specs.declared.mark.Mark.TheVariants as m
-use Rattle.c_ast.specs.declared.keyword.Keyword.TheVariants as k
-use Rattle.c_ast.specs.declared.token.Tok.TheVariants as t
 use Rattle.c_ast.specs.declared.token.Token.{Token}
-use Rattle.c_ast.specs.declared.tree.UnaryOp.{UnaryOp}
-use Rattle.c_ast.specs.declared.tree.PostfixOp.{PostfixOp}
 use Rattle.c_ast.specs.declared.tree.BinaryOp.{BinaryOp}
-use Rattle.c_ast.specs.GrammarTokens.{IsMark, IsWord, binary_op, level, assign_op, step_mark, step_op, prefix_mark, prefix_op, postfix_mark, postfix_op}
-use Rattle.c_ast.specs.Trees.{Ty, plain, Exp, name, call, index, postfix, unary, cast, binary, conditional, assign, comma, exps, Top}
+use Rattle.c_ast.specs.GrammarTokens.{IsMark, binary_op, level, assign_op, step_mark, prefix_mark, postfix_mark}
+use Rattle.c_ast.specs.Trees.{Exp, name, call, index, postfix, cast, comma, exps}
 use Rattle.c_ast.specs.Grammar as g
-use Rattle.c_parse.specs.Signs.{is, says, is_type}
-use Rattle.c_parse.specs.Machine.{Frames, prefix, cast_to, cond, right, assigned, middle, other, first, list, parens, subscript, arg, a_cast, State, typed, operand, paren, called, opened, have, shut, begins_assign, begins_expr, begin_type, choose, if_tighter, follow, go_on, step, run}
+use Rattle.c_parse.specs.Signs.{is, is_type}
+use Rattle.c_parse.specs.Machine.{Frames, prefix, cast_to, cond, right, assigned, middle, other, first, list, parens, subscript, arg, a_cast, typed, operand, paren, called, opened, have, shut, begins_assign, begins_expr, begin_type, if_tighter, step, run}
 use Rattle.c_parse.proofs.Tokens.{op_is_not, not_assign, not_step, low_level}
-use Rattle.c_parse.proofs.Complete.{binds, binds_binary, binds_assign, no_open, no_bracket, no_postfix, Heads, heads, each, Stops, stops_more, Ends, ends_stops, stops_ends, alike, takes, on, fall_prefix, fall_cast, fall_assigned, fall_other, fall_first, fall_list, fall_cond, fall_right, fall_shut, Takes, in_cond, in_right, more_takes, same_shut, value_type, stars, stars_head}
-use Rattle.c_parse.proofs.Starts.{Starts, starts, mark_not, type_not, expr_starts, assigns_start, alike_at}
-
+use Rattle.c_parse.proofs.Complete.{binds, binds_binary, binds_assign, no_open, Heads, heads, each, Stops, stops_more, Ends, ends_stops, stops_ends, alike, takes, on, fall_prefix, fall_cast, fall_assigned, fall_other, fall_first, fall_list, fall_cond, fall_right, fall_shut, Takes, in_cond, in_right, more_takes, value_type, stars, stars_head}
+use Rattle.c_parse.proofs.Starts.{Starts, mark_not, type_not, expr_starts, assigns_start, alike_at}
 
 pub no_call : (p : Place) (f : List ℕ) (σ : Frames) (ts : List Token) → Heads (λ tok. is m.LeftParen tok ≡ false) ts → run ts (called p f σ) ≡ run ts (have (name p f) σ)
 no_call p f σ ts s = alike (λ tok. is m.LeftParen tok ≡ false) (called p f σ) (have (name p f) σ) refl ts s (λ tok h. rw h refl)
@@ -121,7 +114,7 @@ mutual
   castings {rest} (g.casts {o} {c} {ts} {mid} {mid'} {b} {ty} {x} e w q f r) s σ τ g h =
       takes (operand true σ) (paren true o.place σ) o ts (rw e refl)
       ∙ value_type w (stars_head q (rw f refl)) (paren true o.place σ) (a_cast o.place (shut σ))
-          (each (λ tok. is_type tok ≡ true → step (paren true o.place σ) tok ≡ begin_type (a_cast o.place (shut σ)) tok) (λ tok z. rw z refl) ts)
+      (each (λ tok. is_type tok ≡ true → step (paren true o.place σ) tok ≡ begin_type (a_cast o.place (shut σ)) tok) (λ tok z. rw z refl) ts)
       ∙ stars q (a_cast o.place (shut σ)) b
       ∙ takes (typed (a_cast o.place (shut σ)) b ty) (operand true (cast_to o.place ty (shut σ))) c mid' (rw f refl)
       ∙ castings r s (cast_to o.place ty (shut σ)) (cast_to o.place ty (shut σ)) refl refl

@@ -1,9 +1,8 @@
 -- What the machine finds is a unit of the tokens.
-use Rattle.std.proofs.Common.{◌≡◌, ℕ, suc, ◌+◌, List, [], ◌∷◌, ◌++◌, Some, None, Ok, Err, Bool, true, false, refl, sym, ◌∙◌, ap, arith, subst, length, append_assoc, ◌⊎◌, inl, inr, ◌&&◌}
+use Rattle.std.proofs.Common.{◌≡◌, ℕ, ◌+◌, List, [], ◌∷◌, ◌++◌, Some, None, Ok, Err, Bool, true, false, refl, sym, ◌∙◌, ap, subst, length, append_assoc, inl, inr, ◌&&◌}
 use Rattle.std.specs.Prelude.{Option, ℤ}
 use Rattle.std.proofs.lemmas.Bool.{false≢true}
 use Rattle.ib_meaning.specs.declared.place.Place.{Place}
-use Rattle.c_ast.specs.declared.mark.Mark.{Mark}
 use Rattle.c_ast.specs.declared.mark.Mark.TheVariants as m
 use Rattle.c_ast.specs.declared.keyword.Keyword.{Keyword}
 use Rattle.c_ast.specs.declared.keyword.Keyword.TheVariants as k
@@ -14,17 +13,17 @@ use Rattle.c_ast.specs.declared.tree.Base.{Base}
 use Rattle.c_ast.specs.declared.tree.Base.TheVariants as base
 use Rattle.c_ast.specs.declared.tree_unit.Length.{Length}
 use Rattle.c_ast.specs.declared.tree_unit.Length.TheVariants as len
-use Rattle.c_ast.specs.GrammarTokens.{IsMark, IsWord, IsName, IsNumber, step_op, prefix_op, postfix_op}
-use Rattle.c_ast.specs.Trees.{Ty, plain, pointer, Exp, name, number, character, string, null, eof, call, index, postfix, unary, cast, exps, Initial, no_init, value, elements, Decl, declarator, ParName, unnamed, named, Par, param, Maybe, missing, given, start_expr, start_local, Stm, block, empty, expression, if_then, if_else, while_loop, do_while, for_loop, break, continue, return, local, stms, closed, Top, prototype, function, variables}
+use Rattle.c_ast.specs.GrammarTokens.{IsMark, IsWord, step_op, prefix_op, postfix_op}
+use Rattle.c_ast.specs.Trees.{Ty, plain, Exp, name, unary, cast, no_init, value, elements, Decl, declarator, unnamed, named, Par, param, missing, given, start_expr, start_local, Stm, block, empty, expression, if_then, if_else, while_loop, do_while, for_loop, break, continue, return, local, stms, closed, Top, prototype, function, variables}
 use Rattle.c_ast.specs.Grammar as g
 use Rattle.c_parse.specs.Signs.{is, says, is_type, name_of, length_of}
-use Rattle.c_parse.specs.Machine.{Head, head, Outer, braces, body, then_arm, else_arm, while_body, do_body, for_body, Inside, in_braces, in_body, top, global, in_block, in_for, Declaring, declaring, Role, as_statement, as_value, as_first, as_second, as_third, as_if, as_while, as_do, Frames, part, element, init_value, prefix, first, parens, subscript, arg, Use, a_declarator, a_parameter, a_cast, Sizing, of_declarator, of_parameter, Made, State, items, after_long, typed, named_at, sizes, size_open, size_given, sized, init_open, element_next, declared, params_open, params_void, param_next, params_done, inside, stmt, after, test, awaits, semi, for_open, for_start, operand, paren, called, opened, have, choose, shut, begins_assign, begins_expr, outer_of, with_stm, with_decl, with_init, with_param, with_prototype, with_function, close, closer, goes_on, begin_type, step_param, step_sized, step_sizes, step_type, step_typed, begin_params, begin_word, begin_leaf, begin, go_on, step_awaits, stmt_word, stmt_kind, begin_stmt, step_inside, settle, begin_item, step, finish, ended, run}
+use Rattle.c_parse.specs.Machine.{Head, head, Outer, braces, body, then_arm, else_arm, while_body, do_body, for_body, Inside, in_braces, in_body, top, global, in_block, in_for, Declaring, declaring, Role, as_statement, as_value, as_first, as_if, as_while, Frames, part, element, init_value, prefix, parens, subscript, arg, Use, a_declarator, a_parameter, a_cast, Sizing, of_declarator, of_parameter, Made, State, items, after_long, typed, named_at, sizes, size_open, size_given, sized, init_open, element_next, declared, params_open, params_void, param_next, params_done, inside, stmt, after, test, awaits, semi, for_open, for_start, operand, paren, called, opened, have, shut, begins_assign, begins_expr, outer_of, with_stm, with_decl, with_init, with_param, with_function, close, closer, begin_type, step_param, step_sized, step_sizes, step_type, step_typed, begin_word, begin_leaf, begin, go_on, step_awaits, stmt_word, stmt_kind, begin_stmt, step_inside, settle, begin_item, step, finish, ended, run}
 use Rattle.c_parse.proofs.Tokens.{is_true, says_true, none≢some}
 use Rattle.c_parse.proofs.Complete.{takes}
-use Rattle.c_parse.proofs.Declarations.{with_params}
-use Rattle.c_parse.proofs.Statements.{append-nil}
+use Rattle.c_parse.proofs.DeclarationLemmas.{with_params}
+use Rattle.c_parse.proofs.StatementLemmas.{append-nil}
 use Rattle.c_parse.proofs.Viable.{refuses}
-use Rattle.c_parse.proofs.Derives.{Led, led, By, Rest, Follows, NewStmt, Block, Goes, Awaits, EndDeclaration, Declared, MoreElements, Indexed, Past, Done, ParamEnd, Sized, Sizes, NamedAt, AfterType, Typed, NewType, Operand, ForStart, Derives, Derived}
+use Rattle.c_parse.proofs.Derives.{led, By, Rest, Follows, NewStmt, Block, Awaits, EndDeclaration, Declared, Indexed, Past, Done, ParamEnd, Sized, Sizes, NamedAt, AfterType, Typed, NewType, Operand, ForStart, Derives, Derived}
 use Rattle.c_parse.proofs.Sound.{on_test, on_choose, and_both, to_assign, to_expr, to_declarators, goes_back, declared_back, some_same, any_cap, back_follow}
 
 -- kinds of tokens from what is read of them

@@ -9,3 +9,4 @@ mod Derives
 mod Sound
 mod SoundStates
 mod Answered
+mod NestingLemmas

@@ -1,3 +1,4 @@
 pub mod Signs
 pub mod Machine
 pub mod Parses
+pub mod NestingViews

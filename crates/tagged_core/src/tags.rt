@@ -1,0 +1,134 @@
+ghost use Rattle.std.specs.Prelude.{◌≡◌, pos};
+ghost use Rattle.tagged_core.specs.Tagged.{comes_before, evaluated, first_mark, least_mark};
+
+use crate::code::{Tagged, WideOp};
+use ib_base::FaultKind;
+
+/// What the tag rule makes of an operation: its value, a mark to be kept, or a report.
+#[derive(Clone, Copy, PartialEq, Eq, Debug)]
+pub enum Done {
+    Value(i64),
+    Marked { number: u32, kind: FaultKind },
+    Report { number: u32, kind: FaultKind },
+}
+
+/// The tag rule alone: `own` is what the operation gives where no source is marked.
+pub fn evaluate(op: &WideOp, sources: &[Tagged], own: Result<i64, FaultKind>) -> Done
+    ensures { result ≡ evaluated op.now.flagged op.now.number (least_mark sources.now) own }
+{
+    match (least_mark(sources), op.flagged) {
+        (Tagged::Mark { number, kind }, true) => Done::Marked { number, kind },
+        (Tagged::Mark { number, kind }, false) => Done::Report { number, kind },
+        (Tagged::Clear(_), flagged) => unmarked(op.number, flagged, own),
+    }
+}
+
+fn unmarked(number: u32, flagged: bool, own: Result<i64, FaultKind>) -> Done
+    ensures { result ≡ evaluated flagged number (Tagged.Clear (pos 0)) own }
+{
+    match own {
+        Ok(value) => Done::Value(value),
+        Err(kind) if flagged => Done::Marked { number, kind },
+        Err(kind) => Done::Report { number, kind },
+    }
+}
+
+fn least_mark(sources: &[Tagged]) -> Tagged
+    ensures { result ≡ least_mark sources.now }
+{
+    let mut least = Tagged::Clear(0);
+    let mut behind = sources.len();
+    while behind > 0 {
+        behind -= 1;
+        least = first_mark(sources[behind], least);
+    }
+    least
+}
+
+fn first_mark(first: Tagged, second: Tagged) -> Tagged
+    ensures { result ≡ first_mark first second }
+{
+    match (first, second) {
+        (Tagged::Clear(_), _) => second,
+        (Tagged::Mark { .. }, Tagged::Clear(_)) => first,
+        (
+            Tagged::Mark { number, kind },
+            Tagged::Mark {
+                number: other,
+                kind: other_kind,
+            },
+        ) => {
+            if comes_before(other, other_kind, number, kind) {
+                second
+            } else {
+                first
+            }
+        }
+    }
+}
+
+fn comes_before(number: u32, kind: FaultKind, other: u32, other_kind: FaultKind) -> bool
+    ensures { result ≡ comes_before number kind other other_kind }
+{
+    number < other || (number == other && kind.number() < other_kind.number())
+}
+
+#[cfg(test)]
+mod tests {
+    use super::*;
+    use crate::code::WideAct;
+    use ib_act::Act;
+    use ib_base::Place;
+
+    const FIRST: Tagged = Tagged::Mark {
+        number: 3,
+        kind: FaultKind::Bounds,
+    };
+
+    const SAME_NUMBER: Tagged = Tagged::Mark {
+        number: 3,
+        kind: FaultKind::DivZero,
+    };
+
+    const LATER: Tagged = Tagged::Mark {
+        number: 7,
+        kind: FaultKind::DivZero,
+    };
+
+    fn operation(flagged: bool) -> WideOp {
+        WideOp {
+            number: 9,
+            home: Place { line: 1, col: 1 },
+            flagged,
+            act: WideAct::Do(Act::PutNumber { from: 0 }),
+        }
+    }
+
+    #[test]
+    fn the_least_mark_counts(rt: HostRuntime) {
+        let fault = Err(FaultKind::DivOverflow);
+        let rows = [
+            ([LATER, FIRST], Ok(1), (3, FaultKind::Bounds)),
+            ([FIRST, LATER], fault, (3, FaultKind::Bounds)),
+            ([FIRST, SAME_NUMBER], Ok(1), (3, FaultKind::DivZero)),
+            ([SAME_NUMBER, FIRST], Ok(1), (3, FaultKind::DivZero)),
+            ([Tagged::Clear(4), LATER], fault, (7, FaultKind::DivZero)),
+            (
+                [Tagged::Clear(4), Tagged::Clear(5)],
+                fault,
+                (9, FaultKind::DivOverflow),
+            ),
+        ];
+        for (sources, own, (number, kind)) in rows {
+            let marked = evaluate(&operation(true), &sources, own);
+            assert_eq!(rt; marked, Done::Marked { number, kind });
+            let report = evaluate(&operation(false), &sources, own);
+            assert_eq!(rt; report, Done::Report { number, kind });
+        }
+        let clear = [Tagged::Clear(4)];
+        assert_eq!(rt;
+            evaluate(&operation(false), &clear, Ok(-6)),
+            Done::Value(-6)
+        );
+    }
+}

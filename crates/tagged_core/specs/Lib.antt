@@ -5,5 +5,7 @@ pub mod Meaning
 pub mod Operation
 pub mod Parts
 pub mod Places
+pub mod Refusals
 pub mod Tagged
+pub mod Valid
 pub mod Word

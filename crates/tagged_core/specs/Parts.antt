@@ -1,6 +1,5 @@
 -- The parts of code: its functions, its operations with their home places, and how it lies in memory.
-use Rattle.std.specs.Prelude.{ℕ, suc, ◌+◌, ◌*◌, ◌/◌, Bool, ◌==◌, ◌||◌, nat_le, nat_lt, List, [], ◌∷◌, ◌++◌, Option, Some, None, codes, if◌then◌else◌}
-use lib.Pointwise.{pointwise}
+use Rattle.std.specs.Prelude.{ℕ, suc, ◌+◌, ◌*◌, ◌/◌, Bool, ◌==◌, ◌||◌, nat_le, nat_lt, List, [], ◌∷◌, ◌++◌, Option, Some, None, codes, if◌then◌else◌, bytes_eq}
 use Rattle.ib_mem.specs.Memory.{zeros, filled}
 use Rattle.ib_meaning.specs.declared.place.Place.{Place}
 use Rattle.tagged_core.specs.declared.code.Loc.{Loc}
@@ -28,7 +27,7 @@ slots_of None = 0
 slots_of (Some func) = func.slots
 
 abbrev pub is_main : WideFunc → Bool
-is_main func = pointwise (λ a b. a == b) func.name (codes "main")
+is_main func = bytes_eq func.name (codes "main")
 
 -- the number of the first function `main`
 abbrev pub number_of_main : List WideFunc → ℕ

@@ -10,7 +10,7 @@ pub enum Tagged {
 }
 
 /// A register or slot of a call.
-#[derive(Clone, Copy, PartialEq, Eq, Debug)]
+#[derive(Clone, Copy, PartialEq, Eq, Hash, Debug)]
 pub enum Loc {
     Reg(u32),
     Slot(u32),

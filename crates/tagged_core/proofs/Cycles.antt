@@ -132,7 +132,7 @@ pushed_by top more b h (suc i) loc = h.waiting i loc
 clock_by : (outcome : Outcome) (top : Times) (more : List Times) (waiting : List Waiting) (soon b : ℕ) → soon ≤ b → AllBy b (record { top = top; waiting = more }) → AllBy b (clock_after outcome top more waiting soon)
 clock_by (Through s) top more waiting soon b le h = h
 clock_by (Gone (To at) s) top more waiting soon b le h = h
-clock_by (Gone (Into func next result args) s) top more waiting soon b le h = record { top = λ loc. le; waiting = pushed_by top more b h }
+clock_by (Gone (Into func next result args) s) top more waiting soon b le h = record { top = λ loc. omega arith; waiting = pushed_by top more b h }
 clock_by (Left z s) top more waiting soon b le h = resumed_by top more waiting soon b le h
 clock_by (Stopped number kind s) top more waiting soon b le h = h
 

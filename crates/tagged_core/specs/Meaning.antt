@@ -143,9 +143,9 @@ resumed top [] waiting soon = record { top = top; waiting = [] }
 resumed top (times ∷ more) [] soon = record { top = times; waiting = more }
 resumed top (times ∷ more) (w ∷ waiting) soon = record { top = put_if w.result soon times; waiting = more }
 
--- and so is what a call passes
+-- and so is what a call passes: a call begins with everything ready, and its first word can be done in the next cycle
 abbrev pub clock_after : Outcome → Times → List Times → List Waiting → ℕ → Clock
-clock_after (Gone (Into func next result args) s) top more waiting soon = record { top = λ loc. soon; waiting = top ∷ more }
+clock_after (Gone (Into func next result args) s) top more waiting soon = record { top = λ loc. 0; waiting = top ∷ more }
 clock_after (Left z s) top more waiting soon = resumed top more waiting soon
 clock_after outcome top more waiting soon = record { top = top; waiting = more }
 

@@ -230,6 +230,10 @@ lines_of_funcs (func ∷ funcs) = lines_of_func func + lines_of_funcs funcs
 abbrev pub notes_line : RawCode → ℕ
 notes_line code = first_func_line code + lines_of_funcs code.funcs
 
+-- the lines of the text without notes: its last one follows
+abbrev pub text_lines : RawCode → ℕ
+text_lines code = suc (notes_line code)
+
 abbrev pub is_empty : List Loc → Bool
 is_empty [] = true
 is_empty (loc ∷ locs) = false

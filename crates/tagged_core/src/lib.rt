@@ -3,10 +3,13 @@
 
 mod act;
 mod code;
+mod lines;
 mod rule;
 mod rules;
 mod seen;
 mod tags;
+#[cfg(test)]
+mod tests;
 mod valid;
 mod valid_funcs;
 mod wide_code;

@@ -1,6 +1,6 @@
 ghost use Rattle.std.specs.Prelude.{◌≡◌, ◌+◌, ◌<◌, ◌^◌, nat_le, length, [], ◌∷◌, slice_get, IfOk, IfErr};
 ghost use Rattle.std.specs.List.{list_any};
-ghost use Rattle.tagged_core.specs.Valid.{IsValid, broken, broken_rules, first_func_line, image_line, is_entry, limits, lines_of_funcs, notes_line, of_funcs, rule};
+ghost use Rattle.tagged_core.specs.Valid.{IsValid, broken, broken_rules, first_func_line, image_line, is_entry, limits, lines_of_funcs, notes_line, of_funcs, rule, text_lines};
 ghost use Rattle.tagged_core.specs.Refusals.{Refuses};
 
 use crate::code::{RawCode, WideFunc};
@@ -56,7 +56,7 @@ impl<M: Machine> Model for WideCode<M> {
 impl<M: Machine> WideCode<M> {
     /// The code, if it keeps the rules; else it is dropped.
     pub fn validate(alloc: Global, raw: RawCode) -> Result<WideCode<M>, ValidErr>
-        requires { notes_line raw + 1 < 2 ^ 32 }
+        requires { text_lines raw < 2 ^ 32 }
         ensures code { IfOk result (λ code. code ≡ raw) }
         ensures valid { IfOk result (λ code. IsValid (limits M.WIDTH M.REGS M.units_of) raw) }
         ensures broken { IfErr result (Refuses (broken_rules (limits M.WIDTH M.REGS M.units_of) raw)) }
@@ -82,11 +82,8 @@ impl<M: Machine> WideCode<M> {
     }
 }
 
-fn broken_code<M: Machine>(
-    alloc: Global,
-    code: &RawCode,
-) -> Result<Option<BrokenRule>, AllocError>
-    requires { notes_line code.now + 1 < 2 ^ 32 }
+fn broken_code<M: Machine>(alloc: Global, code: &RawCode) -> Result<Option<BrokenRule>, AllocError>
+    requires { text_lines code.now < 2 ^ 32 }
     ensures { IfOk result (λ first. first ≡ slice_get (broken_rules (limits M.WIDTH M.REGS M.units_of) code.now) 0) }
 {
     let first = broken_image(code);
@@ -123,7 +120,7 @@ fn broken_in_funcs<M: Machine>(
 }
 
 fn broken_notes(code: &RawCode) -> Option<BrokenRule>
-    requires { notes_line code.now + 1 < 2 ^ 32 }
+    requires { text_lines code.now < 2 ^ 32 }
     ensures { result ≡ slice_get (broken (notes_line code.now) (rule 8 (list_any is_entry code.now.funcs) ∷ [])) 0 }
 {
     let kept = has_entry(code.funcs.as_slice());

@@ -16,5 +16,5 @@ mod wide_code;
 
 pub use code::{Loc, RawCode, Tagged, WideAct, WideFunc, WideOp, Word};
 pub use rule::{BrokenRule, Rule};
-pub use tags::{Done, evaluate};
+pub use tags::{Done, evaluate, first_mark};
 pub use wide_code::{ValidErr, WideCode};

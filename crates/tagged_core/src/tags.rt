@@ -45,7 +45,8 @@ fn least_mark(sources: &[Tagged]) -> Tagged
     least
 }
 
-fn first_mark(first: Tagged, second: Tagged) -> Tagged
+/// The mark that comes first of two.
+pub fn first_mark(first: Tagged, second: Tagged) -> Tagged
     ensures { result ≡ first_mark first second }
 {
     match (first, second) {

@@ -10,3 +10,5 @@ mod Sound
 mod SoundStates
 mod Answered
 mod NestingLemmas
+mod StackLemmas
+mod RunLemmas

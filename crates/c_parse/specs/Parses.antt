@@ -4,8 +4,8 @@ use Rattle.c_ast.specs.declared.token.Token.{Token}
 use Rattle.c_ast.specs.Trees.{Top}
 use Rattle.c_ast.specs.Grammar.{IsUnit, BeginsUnit}
 use Rattle.c_ast.specs.Nesting.{too_deep}
-use Rattle.c_parse.specs.declared.parse.ParseErr.{ParseErr}
-use Rattle.c_parse.specs.declared.parse.ParseErr.TheVariants.{TooDeep, Syntax, NoMemory}
+use Rattle.c_parse.specs.declared.parser.ParseErr.{ParseErr}
+use Rattle.c_parse.specs.declared.parser.ParseErr.TheVariants.{TooDeep, Syntax, NoMemory}
 
 -- The tokens are the unit, and no other.
 pub record IsOnlyUnit (tokens : List Token) (unit : List Top) : Type 0 where

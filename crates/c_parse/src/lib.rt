@@ -1,9 +1,16 @@
 //! From tokens to the tree that they spell.
 #![tactic(auto)]
 
+mod declarations;
+mod expressions;
+mod frames;
 mod nesting;
-mod parse;
+mod nodes;
+mod parser;
 mod signs;
+mod stacks;
+mod statements;
+#[cfg(test)]
+mod tests;
 
-pub use nesting::too_deep;
-pub use parse::ParseErr;
+pub use parser::{ParseErr, parse};

@@ -87,7 +87,8 @@ fn is_target(end: &End, label: u32) -> bool
     }
 }
 
-fn has_edge(func: &TacFunc, from: u32, to: u32) -> bool
+/// Whether the function has an edge from a block to another.
+pub fn has_edge(func: &TacFunc, from: u32, to: u32) -> bool
     ensures { IsTrue result ↔ HasEdge func.now from to }
 {
     match sqlite_items::at(func.blocks.as_slice(), from as usize) {

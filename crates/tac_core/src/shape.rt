@@ -46,7 +46,8 @@ fn are_name_bytes(bytes: &[u8]) -> bool
     bytes.iter().all(|byte| is_letter(*byte) || is_digit(*byte))
 }
 
-fn is_name(bytes: &[u8]) -> bool
+/// Whether the bytes are a name: a letter or `_`, then letters, digits and `_`.
+pub fn is_name(bytes: &[u8]) -> bool
     ensures { IsTrue result ↔ IsName bytes.now }
 {
     match bytes {

@@ -1,0 +1,57 @@
+-- The machine on the tokens that are left, and what its answer says of all of them.
+use Rattle.std.proofs.Common.{◌≡◌, ℕ, ◌+◌, ◌<◌, ◌≤◌, List, [], ◌∷◌, length, drop, get_or, Some, None, Ok, Err, refl, sym, ◌∙◌, ap, arith, rules}
+use Rattle.std.specs.Prelude.{Option, Result, IfOk, IfErr}
+use Rattle.std.proofs.lemmas.List.{at_drop_more, at_drop_all, length-drop}
+use Rattle.c_ast.specs.declared.token.Token.{Token}
+use Rattle.c_ast.specs.declared.tree_unit.Unit as code
+use Rattle.c_ast.specs.Trees.{Top}
+use Rattle.c_ast.specs.TreeViews.{unit_of}
+use Rattle.c_ast.specs.Grammar.{IsUnit}
+use Rattle.c_ast.specs.Nesting as N
+use Rattle.c_parse.specs.declared.parser.ParseErr.{ParseErr}
+use Rattle.c_parse.specs.declared.parser.ParseErr.TheVariants.{TooDeep, Syntax, NoMemory}
+use Rattle.c_parse.specs.Machine as M
+use Rattle.c_parse.specs.Parses.{Refuses}
+use Rattle.c_parse.specs.Ran.{Ran}
+use Rattle.c_parse.proofs.Complete.{takes}
+use Rattle.c_parse.proofs.Viable.{refuses}
+use Rattle.c_parse.proofs.Answered.{only_unit, wrong_at}
+
+one_token : (ts : List Token) (i : ℕ) (tok : Token) (s : M.State) → i < length ts → tok ≡ get_or ts i tok →
+    M.run (drop i ts) s ≡ M.run (tok ∷ drop (i + 1) ts) s
+one_token ts i tok s lt e = at_drop_more (λ l. M.run l s) ts i tok lt ∙ ap (λ t. M.run (t ∷ drop (i + 1) ts) s) (sym e)
+
+pub goes_on : (ts : List Token) (i : ℕ) (tok : Token) (s next : M.State) → i < length ts → tok ≡ get_or ts i tok → M.step s tok ≡ Some next →
+    M.run (drop i ts) s ≡ M.run (drop (i + 1) ts) next
+goes_on ts i tok s next lt e h = one_token ts i tok s lt e ∙ takes s next tok (drop (i + 1) ts) h
+
+pub stops : (ts : List Token) (i : ℕ) (tok : Token) (s : M.State) → M.run ts (M.items []) ≡ M.run (drop i ts) s → i < length ts →
+    tok ≡ get_or ts i tok → M.step s tok ≡ None → Ran ts (Err (Syntax i))
+stops ts i tok s so lt e h =
+    (length (drop (i + 1) ts) + 1, omega (arith, length-drop (i + 1) ts), so ∙ one_token ts i tok s lt e ∙ refuses s tok (drop (i + 1) ts) h)
+
+pub finishes : (ts : List Token) (i : ℕ) (s : M.State) (unit : code.Unit) → M.run ts (M.items []) ≡ M.run (drop i ts) s → length ts ≤ i →
+    M.finish s ≡ Some (unit_of unit) → Ran ts (Ok unit)
+finishes ts i s unit so le h = so ∙ at_drop_all (λ l. M.run l s) ts i le ∙ ap M.ended h
+
+pub unfinished : (ts : List Token) (i : ℕ) (s : M.State) → M.run ts (M.items []) ≡ M.run (drop i ts) s → length ts ≤ i →
+    M.finish s ≡ None → Ran ts (Err (Syntax (length ts)))
+unfinished ts i s so le h = (0, omega arith, so ∙ at_drop_all (λ l. M.run l s) ts i le ∙ ap M.ended h)
+
+pub tree_is : (ts : List Token) (r : Result code.Unit ParseErr) → Ran ts r → IfOk r (λ unit. IsUnit ts (unit_of unit))
+tree_is ts (Ok unit) h = (only_unit ts (unit_of unit) h).is_unit
+tree_is ts (Err e) h = search rules
+
+pub tree_only : (ts : List Token) (r : Result code.Unit ParseErr) → Ran ts r → IfOk r (λ unit. (other : List Top) → IsUnit ts other → other ≡ unit_of unit)
+tree_only ts (Ok unit) h = (only_unit ts (unit_of unit) h).only
+tree_only ts (Err e) h = search rules
+
+pub kept : (ts : List Token) (r : Result code.Unit ParseErr) → N.too_deep ts ≡ None → IfOk r (λ unit. N.too_deep ts ≡ None)
+kept ts (Ok unit) h = h
+kept ts (Err e) h = search rules
+
+pub says_why : (ts : List Token) (r : Result code.Unit ParseErr) → N.too_deep ts ≡ None → Ran ts r → IfErr r (λ e. Refuses ts e)
+says_why ts (Ok unit) shallow h = search rules
+says_why ts (Err (TooDeep place)) shallow h = absurd h
+says_why ts (Err (Syntax n)) shallow h = (shallow, wrong_at ts n h.0 h.1 h.2)
+says_why ts (Err NoMemory) shallow h = search rules

@@ -1,0 +1,12 @@
+pub mod Appended
+pub mod Files
+pub mod Good
+pub mod Lists
+pub mod Names
+pub mod Numbers
+pub mod Parts
+pub mod Read
+pub mod Saying
+pub mod Spelling
+pub mod Whole
+pub mod Written

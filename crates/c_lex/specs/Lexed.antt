@@ -1,8 +1,9 @@
 -- What the lexer's answers say of a source.
-use Rattle.std.specs.Prelude.{◌≡◌, List, Result, Ok, Err, ℕ}
+use Rattle.std.specs.Prelude.{◌≡◌, List, Result, Ok, Err, ℕ, fold}
+use Rattle.ib_meaning.specs.declared.place.Place.{Place}
 use Rattle.c_ast.specs.declared.fault.LexFault.TheVariants as lex_fault
 use Rattle.c_ast.specs.declared.token.Token.{Token}
-use Rattle.c_ast.specs.Cut.{StopsAt, Ending, whole, stopped}
+use Rattle.c_ast.specs.Cut.{StopsAt, Ending, whole, stopped, start, past_byte}
 use Rattle.c_lex.specs.declared.error.LexErr.{LexErr}
 use Rattle.c_lex.specs.declared.error.LexErr.TheVariants.{BadByte, OpenComment, BadLiteral, NoMemory}
 
@@ -20,3 +21,7 @@ Answers (Err (BadByte place)) tokens ending = ending ≡ stopped lex_fault.BadBy
 Answers (Err (OpenComment place)) tokens ending = ending ≡ stopped lex_fault.OpenComment place
 Answers (Err (BadLiteral place)) tokens ending = ending ≡ stopped lex_fault.BadLiteral place
 Answers (Err NoMemory) tokens ending = Unit {0}
+
+-- the place just past the last byte
+abbrev pub end_place : List ℕ → Place
+end_place source = fold past_byte (start source).place source

@@ -49,7 +49,8 @@ pub struct Lexer<'a> {
     pub clear: bool,
 }
 
-fn place_past(before: Place, bytes: &[u8]) -> Place
+/// The place behind bytes, of which the first is at the given place.
+pub fn place_past(before: Place, bytes: &[u8]) -> Place
     requires lines { before.line + length bytes.now < 2 ^ 32 }
     requires columns { before.col + length bytes.now < 2 ^ 32 }
     ensures { result ≡ fold past_byte before bytes.now }

@@ -14,4 +14,4 @@ mod tests;
 mod words;
 
 pub use error::LexErr;
-pub use source::lex;
+pub use source::{end_place, lex};

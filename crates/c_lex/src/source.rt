@@ -1,11 +1,12 @@
 ghost use Rattle.std.specs.Prelude.{◌≡◌, ◌≤◌, length, List, IfOk, IfErr};
 ghost use Rattle.c_ast.specs.Cut.{AreTokens, IsCut, start, Ending};
 ghost use Rattle.c_ast.specs.declared.token.Token.{Token};
-ghost use Rattle.c_lex.specs.Lexed.{Refuses, Answers};
+ghost use Rattle.c_lex.specs.Lexed.{Refuses, Answers, end_place};
 
 use crate::error::LexErr;
-use crate::lexer::Lexer;
+use crate::lexer::{Lexer, place_past};
 use c_ast::Token;
+use ib_base::Place;
 use sqlite_items::Items;
 use std::alloc::Global;
 
@@ -28,4 +29,12 @@ pub fn lex(alloc: Global, bytes: &[u8]) -> Result<Items<Token>, LexErr>
     }
     let Lexer { tokens, .. } = lexer;
     Ok(tokens)
+}
+
+/// The place just past the last byte.
+pub fn end_place(bytes: &[u8]) -> Place
+    requires { length bytes.now ≤ 1048576 }
+    ensures { result ≡ end_place bytes.now }
+{
+    place_past(Place { line: 1, col: 1 }, bytes)
 }

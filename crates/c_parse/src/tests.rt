@@ -66,6 +66,8 @@ fn takes_each_item_and_refuses_at_its_first_wrong_token(rt: HostRuntime) -> Resu
         ("void f();", "ok"),
         ("void f()", "syntax 4"),
         ("void f(void){}", "ok"),
+        ("char **f(void){}", "ok"),
+        ("void x;", "ok"),
         ("void f(void, int a);", "syntax 4"),
         ("int main ( void ) {", "syntax 6"),
         ("int f(int, char *s, long a[], long int[2], int **);", "ok"),
@@ -157,6 +159,8 @@ fn takes_each_expression_and_refuses_at_its_first_wrong_token(rt: HostRuntime) -
         ("a ? b : c = d;", "syntax 10"),
         ("(a ? b : c) = d;", "ok"),
         ("a ? b, c = d : e ? f : g;", "ok"),
+        ("a = b ? c = d, e = f : g ? h : i, j = k;", "ok"),
+        ("a = b ? c : d, e = f ? g : h = i;", "syntax 20"),
         ("a ? b;", "syntax 8"),
         ("a ? : b;", "syntax 7"),
         (
@@ -205,10 +209,15 @@ fn refuses_the_first_token_that_nests_past_two_hundred(rt: HostRuntime) -> Resul
         ("a=", 200, "a;}", "too deep 1:408"),
         ("a+", 199, "a;}", "ok"),
         ("a+", 200, "a;}", "too deep 1:408"),
+        ("(int)", 199, "a;}", "ok"),
+        ("(int)", 200, "a;}", "too deep 1:1004"),
+        ("f(", 200, "", "too deep 1:408"),
         ("if(a)", 198, ";}", "ok"),
         ("if(a)", 199, ";}", "too deep 1:1001"),
         ("while(a)", 198, ";}", "ok"),
         ("while(a)", 199, ";}", "too deep 1:1598"),
+        ("do ", 199, ";}", "syntax 205"),
+        ("do ", 200, ";}", "too deep 1:606"),
         ("for(;;)", 198, ";}", "ok"),
         ("for(;;)", 199, ";}", "too deep 1:1398"),
         ("if(a);else ", 198, ";}", "ok"),
@@ -229,17 +238,19 @@ fn refuses_the_first_token_that_nests_past_two_hundred(rt: HostRuntime) -> Resul
 
 #[test]
 fn takes_two_hundred_nested_constructs_that_close(rt: HostRuntime) -> Result<(), Fail> {
-    for (opening, closing, behind) in [
-        ("{", "}", "}"),
-        ("(", ")", ";}"),
-        ("a[", "]", ";}"),
-        ("a?", ":a", ";}"),
+    for (opening, times, middle, closing, want) in [
+        ("{", 199, "", "}", "ok"),
+        ("(", 199, "a", ")", "ok"),
+        ("f(", 199, "a", ")", "ok"),
+        ("a[", 199, "a", "]", "ok"),
+        ("a?", 199, "a", ":a", "ok"),
+        ("do ", 99, ";", "while(a);", "ok"),
+        ("do ", 100, ";", "while(a);", "too deep 1:1197"),
     ] {
-        let middle = if opening == "{" { "" } else { "a" };
-        let front = repeated(rt.alloc(), "int f(){", opening, 199, middle)?;
-        let source = repeated(rt.alloc(), front.as_str(), closing, 199, behind)?;
+        let front = repeated(rt.alloc(), "int f(){", opening, times, middle)?;
+        let source = repeated(rt.alloc(), front.as_str(), closing, times, ";}")?;
         let found = answer(rt.alloc(), source.as_str().as_bytes())?;
-        assert_eq!(rt; found.as_str(), "ok", "{opening:?}");
+        assert_eq!(rt; found.as_str(), want, "{times} {opening:?}");
     }
     Ok(())
 }

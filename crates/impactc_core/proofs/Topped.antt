@@ -7,16 +7,18 @@ use Rattle.ib_base.specs.World.{World, Disk}
 use Rattle.first_form.specs.declared.program.Program.{Program}
 use Rattle.impactc_core.specs.declared.core_err.CoreErr.{CoreErr}
 use Rattle.impactc_core.specs.declared.core_err.CoreErr.TheVariants.{Usage as BadWords, Source, HostFault as Host, NoMemory as Memory, TooLarge as Large}
+use Rattle.impactc_core.specs.declared.core_err.Limit.{Limit}
+use Rattle.impactc_core.specs.declared.core_err.Limit.TheVariants.{Source as SourceBytes, Nesting}
 use Rattle.impactc_core.specs.declared.status.Status.{Status}
 use Rattle.impactc_core.specs.declared.status.Status.TheVariants.{Done, Usage, SourceRefused, ProfileRefused, CodeRefused, HostFault, NoMemory, TooLarge, ProgramFault, CyclesSpent}
 use Rattle.impactc_core.specs.declared.success.Success.{Success}
 use Rattle.impactc_core.specs.declared.success.Success.TheVariants.{Ended, Faulted}
 use Rattle.impactc_core.specs.declared.words.Command.{Command}
 use Rattle.impactc_core.specs.declared.words.Command.TheVariants.{Run}
-use Rattle.impactc_core.specs.Answers.{IsPlain, HasProgram, AnswerOf, RunAnswer, MayChange, Works, IsAnswersNote, NoteOf, Answers, IsCaused, IsRunnable}
+use Rattle.impactc_core.specs.Answers.{IsPlain, HasProgram, IsPast, AnswerOf, RunAnswer, MayChange, Works, IsAnswersNote, NoteOf, Answers, IsCaused, IsRunnable}
 use Rattle.impactc_core.specs.Notes.{refusal_note, status_of, note_of}
 use Rattle.impactc_core.specs.Work.{NoteFor, LeavesNote}
-use Rattle.impactc_core.proofs.Working.{no_fault}
+use Rattle.impactc_core.proofs.Working.{no_fault, no_depth}
 
 module _ (answer : Status → World → World → List ℕ → Type 0) (may : World → World → Type 0) (old mid : World) (work : Result Success CoreErr) (works : Works answer may old mid (status_of work) (note_of work)) where
   of_work : (status : Status) (whole : List ℕ) → IsPlain (status_of work) → whole ≡ note_of work → IsAnswersNote answer old mid whole
@@ -122,6 +124,11 @@ same_content : (disk : Option Disk) (file a b : List ℕ) → IsSomeAnd disk (λ
 same_content None file a b h k = absurd h
 same_content (Some disk) file a b h k = some_same a b (sym h ∙ k)
 
+-- what is runnable passes no limit
+not_past : (content : List ℕ) (program : Program) → length content ≤ 1048576 → HasProgram content program → (limit : Limit) → IsPast content limit → ⊥
+not_past content program fits has SourceBytes past = omega arith
+not_past content program fits has Nesting past = no_depth content program has past.1
+
 at_run : (file content : List ℕ) (program : Program) (old new : World) (status : Status) (rose : Type 0) → IsRunnable file old content program → Answers (RunAnswer file) (MayChange (Some (Run file))) old new status → (status ≡ HostFault → rose) → (status ≡ Done) ⊎ ((status ≡ ProgramFault) ⊎ ((status ≡ NoMemory) ⊎ rose))
 at_run file content program old new Done rose can answers fault = inl refl
 at_run file content program old new Usage rose can answers fault = absurd answers.says
@@ -136,10 +143,7 @@ at_run file content program old new NoMemory rose can answers fault = inr (inr (
 at_run file content program old new TooLarge rose can answers fault =
     let large = answers.says in
     let same : content ≡ large.content = same_content old.disk file content large.content can.there large.there in
-    let len : length content ≡ length large.content = ap (length {A = ℕ}) same in
-    let past = large.large in
-    let fits = can.fits in
-    absurd (omega arith)
+    absurd (not_past content program can.fits can.form large.limit (subst (λ (bytes : List ℕ). IsPast bytes large.limit) (sym same) large.past))
 at_run file content program old new ProgramFault rose can answers fault = inr (inl refl)
 at_run file content program old new CyclesSpent rose can answers fault = absurd answers.says
 

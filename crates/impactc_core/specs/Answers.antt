@@ -1,5 +1,5 @@
 -- The answers of the commands, each with its cause.
-use Rattle.std.specs.Prelude.{◌≡◌, ◌≤◌, ◌<◌, ◌⊎◌, ⊤, ℕ, ℤ, List, length, Option, Some, None, IsSomeAnd}
+use Rattle.std.specs.Prelude.{◌≡◌, ◌≤◌, ◌<◌, ◌⊎◌, ⊤, ℕ, ℤ, List, length, slice_get, Option, Some, None, IsSomeAnd}
 use Rattle.std.specs.FinMap.{get}
 use Rattle.ib_meaning.specs.declared.fault.FaultKind.{FaultKind}
 use Rattle.ib_meaning.specs.declared.place.Place.{Place}
@@ -10,13 +10,19 @@ use Rattle.wide_core.specs.declared.code.RawCode.{RawCode}
 use Rattle.wide_core.specs.Meaning.{wide_meaning}
 use Rattle.c_ast.specs.declared.token.Token.{Token}
 use Rattle.c_ast.specs.Cut.{AreTokens, StopsAt}
+use Rattle.c_ast.specs.Grammar.{IsUnit}
+use Rattle.c_ast.specs.Nesting.{too_deep}
+use Rattle.c_ast.specs.Trees.{Top}
+use Rattle.c_lex.specs.Lexed.{end_place}
+use Rattle.c_parse.specs.Parses.{IsWrongAt}
 use Rattle.first_form.specs.declared.program.Program.{Program}
 use Rattle.first_form.specs.FirstForm.{IsFirstForm}
 use Rattle.first_form.specs.Meaning.{source_meaning}
 use Rattle.first_code.specs.Plain.{IsPlain as IsPlainCode}
-use Rattle.impactc_core.specs.declared.core_err.Limit.TheVariants.{Source as SourceBytes}
+use Rattle.impactc_core.specs.declared.core_err.Limit.{Limit}
+use Rattle.impactc_core.specs.declared.core_err.Limit.TheVariants.{Source as SourceBytes, Nesting}
 use Rattle.impactc_core.specs.declared.core_err.SourceFault.{SourceFault}
-use Rattle.impactc_core.specs.declared.core_err.SourceFault.TheVariants.{Lexical, NotInThisVersion}
+use Rattle.impactc_core.specs.declared.core_err.SourceFault.TheVariants.{Lexical, Syntax, NotInThisVersion}
 use Rattle.impactc_core.specs.declared.core_err.CoreErr.TheVariants.{Usage as BadWords, Source, HostFault as Host, NoMemory as Memory, TooLarge as Large}
 use Rattle.impactc_core.specs.declared.status.Status.{Status}
 use Rattle.impactc_core.specs.declared.status.Status.TheVariants.{Done, Usage, SourceRefused, HostFault, NoMemory, TooLarge, ProgramFault}
@@ -41,28 +47,69 @@ pub record IsSource (file : List ℕ) (w : World) (content : List ℕ) : Type 0 
 
 -- ---- `run F`
 
--- the file is past the limit; nothing is printed, and the input is left
-pub record IsTooLarge (file : List ℕ) (old new : World) (note : List ℕ) : Type 0 where
-  pub content : List ℕ
-  pub there : HasFile old file content
-  pub large : 1048576 < length content
-  pub same : new ≡ old
-  pub says : note ≡ refusal_note (Large SourceBytes)
+-- the content has tokens, and one of them nests deeper than 200
+pub record NestsTooDeep (content : List ℕ) : Type 0 where
+  pub tokens : List Token
+  pub place : Place
+  pub cut : AreTokens content tokens
+  pub deep : too_deep tokens ≡ Some place
 
--- the content has tokens, and they are those of the program
+-- the content has these tokens, and none of them nests deeper than 200
+pub record HasTokens (content : List ℕ) (tokens : List Token) : Type 0 where
+  pub cut : AreTokens content tokens
+  pub kept : too_deep tokens ≡ None
+
+-- the content has these tokens, and they are the unit
+pub record HasUnit (content : List ℕ) (tokens : List Token) (unit : List Top) : Type 0 where
+  pub has : HasTokens content tokens
+  pub is_unit : IsUnit tokens unit
+
+-- the content has a unit, and the program is that of its tokens
 pub record HasProgram (content : List ℕ) (program : Program) : Type 0 where
   pub tokens : List Token
-  pub cut : AreTokens content tokens
+  pub unit : List Top
+  pub has : HasUnit content tokens unit
   pub form : IsFirstForm content tokens program
 
-abbrev pub HasTokens : List ℕ → Type 0
-HasTokens content = (tokens : List Token) × AreTokens content tokens
+-- the place of a token, or just past the last byte where there is none
+abbrev pub place_of : List ℕ → Option Token → Place
+place_of content (Some token) = token.place
+place_of content None = end_place content
 
--- why a content within the limit is refused, at which place; a later cause holds that no earlier one does
+-- The content's tokens are no unit: those before the place begin one, and with the token there, or with the end, there is none.
+pub record HasWrongPhrase (content : List ℕ) (place : Place) : Type 0 where
+  pub tokens : List Token
+  pub has : HasTokens content tokens
+  pub before : ℕ
+  pub wrong : IsWrongAt tokens before
+  pub at : place ≡ place_of content (slice_get tokens before)
+
+-- the content has a unit, but no program of the first form
+pub record HasOtherForm (content : List ℕ) : Type 0 where
+  pub tokens : List Token
+  pub unit : List Top
+  pub has : HasUnit content tokens unit
+  pub none : (program : Program) → HasProgram content program → ⊥
+
+-- a quantity of the content that passes its limit; a later one holds that no earlier one does
+abbrev pub IsPast : List ℕ → Limit → Type 0
+IsPast content SourceBytes = 1048576 < length content
+IsPast content Nesting = (length content ≤ 1048576) × NestsTooDeep content
+
+-- why a content within the limits is refused, at which place; a later cause holds that no earlier one does
 abbrev pub HasFault : List ℕ → Place → SourceFault → Type 0
 HasFault content place (Lexical kind) = StopsAt content kind place
-HasFault content place NotInThisVersion =
-    (place ≡ record { line = 1; col = 1 }) × HasTokens content × ((program : Program) → HasProgram content program → ⊥)
+HasFault content place Syntax = HasWrongPhrase content place
+HasFault content place NotInThisVersion = (place ≡ record { line = 1; col = 1 }) × HasOtherForm content
+
+-- the file is past a limit; nothing is printed, and the input is left
+pub record IsTooLarge (file : List ℕ) (old new : World) (note : List ℕ) : Type 0 where
+  pub content : List ℕ
+  pub limit : Limit
+  pub there : HasFile old file content
+  pub past : IsPast content limit
+  pub same : new ≡ old
+  pub says : note ≡ refusal_note (Large limit)
 
 -- the file is no source that this version compiles; nothing is printed, and the input is left
 pub record IsRefused (file : List ℕ) (old new : World) (note : List ℕ) : Type 0 where

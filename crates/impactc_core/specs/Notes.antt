@@ -7,9 +7,9 @@ use Rattle.c_ast.specs.declared.fault.LexFault.TheVariants.{BadByte, OpenComment
 use Rattle.impactc_core.specs.declared.core_err.CoreErr.{CoreErr}
 use Rattle.impactc_core.specs.declared.core_err.CoreErr.TheVariants.{Usage as BadWords, Source, HostFault as Host, NoMemory as Memory, TooLarge as Large}
 use Rattle.impactc_core.specs.declared.core_err.Limit.{Limit}
-use Rattle.impactc_core.specs.declared.core_err.Limit.TheVariants.{Source as SourceBytes}
+use Rattle.impactc_core.specs.declared.core_err.Limit.TheVariants.{Source as SourceBytes, Nesting}
 use Rattle.impactc_core.specs.declared.core_err.SourceFault.{SourceFault}
-use Rattle.impactc_core.specs.declared.core_err.SourceFault.TheVariants.{Lexical, NotInThisVersion}
+use Rattle.impactc_core.specs.declared.core_err.SourceFault.TheVariants.{Lexical, Syntax, NotInThisVersion}
 use Rattle.impactc_core.specs.declared.status.Status.{Status}
 use Rattle.impactc_core.specs.declared.status.Status.TheVariants.{Done, Usage, SourceRefused, HostFault, NoMemory, TooLarge, ProgramFault}
 use Rattle.impactc_core.specs.declared.success.Success.{Success}
@@ -19,10 +19,12 @@ abbrev pub source_text : SourceFault → List ℕ
 source_text (Lexical BadByte) = codes "bad byte"
 source_text (Lexical OpenComment) = codes "open comment"
 source_text (Lexical BadLiteral) = codes "bad literal"
+source_text Syntax = codes "syntax"
 source_text NotInThisVersion = codes "not in this version"
 
 abbrev pub limit_text : Limit → List ℕ
 limit_text SourceBytes = codes "source 1048576"
+limit_text Nesting = codes "nesting 200"
 
 -- what a command says that did its work
 abbrev pub success_text : Success → List ℕ

@@ -1,5 +1,5 @@
 -- What the parts of a command's work come to.
-use Rattle.std.specs.Prelude.{◌≡◌, ◌≤◌, ◌<◌, ◌⊎◌, ⊤, ℕ, List, length, Result}
+use Rattle.std.specs.Prelude.{◌≡◌, ◌≤◌, ◌<◌, ◌⊎◌, ⊤, ℕ, List, length, slice_get, Result}
 use Rattle.ib_meaning.specs.Agreement.{Agrees}
 use Rattle.ib_base.specs.World.{World, HasFile, Begins, noted}
 use Rattle.wide_core.specs.declared.code.RawCode.{RawCode}
@@ -9,15 +9,18 @@ use Rattle.first_form.specs.Meaning.{source_meaning}
 use Rattle.first_code.specs.Plain.{IsPlain as IsPlainCode}
 use Rattle.impactc_core.specs.declared.core_err.CoreErr.{CoreErr}
 use Rattle.impactc_core.specs.declared.core_err.CoreErr.TheVariants.{Source, HostFault as Host, NoMemory as Memory, TooLarge as Large}
-use Rattle.impactc_core.specs.declared.core_err.Limit.TheVariants.{Source as SourceBytes}
-use Rattle.impactc_core.specs.declared.core_err.SourceFault.TheVariants.{Lexical}
+use Rattle.impactc_core.specs.declared.core_err.Limit.TheVariants.{Source as SourceBytes, Nesting}
+use Rattle.impactc_core.specs.declared.core_err.SourceFault.TheVariants.{Lexical, Syntax}
+use Rattle.c_ast.specs.declared.token.Token.{Token}
 use Rattle.c_ast.specs.declared.fault.LexFault.TheVariants as lex_fault
 use Rattle.c_lex.specs.declared.error.LexErr.{LexErr}
 use Rattle.c_lex.specs.declared.error.LexErr.TheVariants.{BadByte, OpenComment, BadLiteral, NoMemory as OutOfMemory}
+use Rattle.c_parse.specs.declared.parser.ParseErr.{ParseErr}
+use Rattle.c_parse.specs.declared.parser.ParseErr.TheVariants.{TooDeep, Syntax as WrongAt, NoMemory as NoRoom}
 use Rattle.impactc_core.specs.declared.status.Status.{Status}
 use Rattle.impactc_core.specs.declared.status.Status.TheVariants.{HostFault, NoMemory}
 use Rattle.impactc_core.specs.declared.success.Success.{Success}
-use Rattle.impactc_core.specs.Answers.{IsPlain, HasProgram, HasFault}
+use Rattle.impactc_core.specs.Answers.{IsPlain, NestsTooDeep, HasProgram, HasFault, place_of}
 use Rattle.impactc_core.specs.Notes.{refusal_note, status_of, note_of}
 use Rattle.wide_sim.specs.Simulated.{Finishes}
 use Rattle.impactc_core.specs.Runs.{PrintsPartOf, finish_of, cycles_of}
@@ -83,12 +86,13 @@ pub record RunsSource (bytes : List ℕ) (success : Success) (old new : World) :
   pub form : HasProgram bytes program
   pub runs : RunsProgram program success old new
 
--- Why a source was not run to its end: it is refused, and then nothing changed; or the run of its program broke off; or it
+-- Why a source within the limit was not run to its end: it is refused, and then nothing changed; or the run of its program broke off; or it
 -- was not run for want of memory.
 abbrev pub RefusesSource : (file bytes : List ℕ) → CoreErr → (old new : World) → Type 0
 RefusesSource file bytes (Source name place reason) old new = (name ≡ file) × HasFault bytes place reason × (new ≡ old)
 RefusesSource file bytes Host old new = (program : Program) × HasProgram bytes program × PrintsPartOf (source_meaning program) old new
 RefusesSource file bytes Memory old new = (new ≡ old) ⊎ ((program : Program) × HasProgram bytes program × PrintsPartOf (source_meaning program) old new)
+RefusesSource file bytes (Large limit) old new = (limit ≡ Nesting) × NestsTooDeep bytes × (new ≡ old)
 RefusesSource file bytes refusal old new = ⊥
 
 -- the lexer's refusal of a file
@@ -97,3 +101,9 @@ lexical_refusal file (BadByte place) = Source file place (Lexical lex_fault.BadB
 lexical_refusal file (OpenComment place) = Source file place (Lexical lex_fault.OpenComment)
 lexical_refusal file (BadLiteral place) = Source file place (Lexical lex_fault.BadLiteral)
 lexical_refusal file OutOfMemory = Memory
+
+-- the parser's refusal of a file with these tokens
+abbrev pub phrase_refusal : (file bytes : List ℕ) → List Token → ParseErr → CoreErr
+phrase_refusal file bytes tokens (TooDeep place) = Large Nesting
+phrase_refusal file bytes tokens (WrongAt before) = Source file (place_of bytes (slice_get tokens before)) Syntax
+phrase_refusal file bytes tokens NoRoom = Memory

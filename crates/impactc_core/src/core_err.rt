@@ -8,6 +8,8 @@ use std::fmt;
 pub enum SourceFault {
     /// At the place no part of a source stands.
     Lexical(LexFault),
+    /// What stands before the place begins a unit of the grammar, and with the token there, or with the end, there is none.
+    Syntax,
     /// The source has a form that this version does not compile.
     NotInThisVersion,
 }
@@ -17,6 +19,8 @@ pub enum SourceFault {
 pub enum Limit {
     /// The bytes of a source file.
     Source,
+    /// How deep a source's tokens nest.
+    Nesting,
 }
 
 /// Why a command is refused, with what the note shows.
@@ -46,6 +50,7 @@ impl fmt::Display for SourceFault {
             SourceFault::Lexical(LexFault::BadByte) => f.write_str("bad byte"),
             SourceFault::Lexical(LexFault::OpenComment) => f.write_str("open comment"),
             SourceFault::Lexical(LexFault::BadLiteral) => f.write_str("bad literal"),
+            SourceFault::Syntax => f.write_str("syntax"),
             SourceFault::NotInThisVersion => f.write_str("not in this version"),
         }
     }
@@ -60,6 +65,7 @@ impl fmt::Display for Limit {
     fn fmt<W: fmt::Write>(&self, f: &mut fmt::Formatter<W>) -> fmt::Result {
         match self {
             Limit::Source => f.write_str("source 1048576"),
+            Limit::Nesting => f.write_str("nesting 200"),
         }
     }
 }

@@ -66,22 +66,17 @@ fn refuses_other_sources(rt: HostRuntime) -> Result<(), Fail> {
     let note = b"F:1:1: not in this version\n";
     for source in [
         "",
-        "int main(void){return 0;",
+        "int x;",
         "int main(void){return x;}",
         "int main(void){int x=x;return 0;}",
         "int main(void){int x;int x;return 0;}",
-        "int main(void){int while;return 0;}",
         "int main(void){return 2147483648;}",
         "int main(void){return 01;}",
         "int main(void){return 0x1;}",
         "int main(void){return 1L;}",
-        "int main(void){int _Bool;}",
-        "int main(void){int register;}",
         "int main(void){return 'a';}",
-        "int main(void){return 1--2;}",
         "int main(void){return (1);}",
-        "int main(void){return 6//2;}",
-        "int main(void){return 1;}}",
+        "int main(void){if(1)return 1;else return 2;}",
         "char main(void){return 1;}",
     ] {
         runs(&rt, alloc, source.as_bytes(), 3, b"", note)?;
@@ -108,9 +103,71 @@ fn refuses_sources_without_tokens(rt: HostRuntime) -> Result<(), Fail> {
         ("int main(void){return 1;\u{b7}}", "F:1:25: bad byte\n"),
         ("int x; #include <stdio.h>\n", "F:1:8: bad byte\n"),
         ("@ 08 /*", "F:1:1: bad byte\n"),
+        ("int main(void){return 1 @ 2;}", "F:1:25: bad byte\n"),
+        ("int main(void){return 1 2 @;}", "F:1:27: bad byte\n"),
     ] {
         runs(&rt, alloc, source.as_bytes(), 3, b"", note.as_bytes())?;
     }
+    Ok(())
+}
+
+#[test]
+fn refuses_sources_without_a_tree(rt: HostRuntime) -> Result<(), Fail> {
+    let alloc = rt.alloc();
+    for (source, note) in [
+        ("int main(void){return 1 2;}", "F:1:25: syntax\n"),
+        ("int main(void){return 0;", "F:1:25: syntax\n"),
+        ("int main(void){return 0;\n// }\n ", "F:3:2: syntax\n"),
+        ("int main(void){\n  int while;\n}", "F:2:7: syntax\n"),
+        ("int main(void){int _Bool;}", "F:1:20: syntax\n"),
+        ("int main(void){return 1--2;}", "F:1:26: syntax\n"),
+        ("int main(void){return 1;}}", "F:1:26: syntax\n"),
+        ("int main(void){else return 1;}", "F:1:16: syntax\n"),
+        ("return", "F:1:1: syntax\n"),
+    ] {
+        runs(&rt, alloc, source.as_bytes(), 3, b"", note.as_bytes())?;
+    }
+    Ok(())
+}
+
+/// What stands around a part that is repeated.
+fn repeated(
+    alloc: Global,
+    before: &str,
+    part: &str,
+    times: usize,
+    behind: &str,
+) -> Result<String, AllocError> {
+    let mut source = String::from_str(alloc, before)?;
+    for _ in 0..times {
+        source.push_str(part)?;
+    }
+    source.push_str(behind)?;
+    Ok(source)
+}
+
+/// A number in so many pairs of parentheses.
+fn in_pairs(alloc: Global, times: usize) -> Result<String, AllocError> {
+    let front = repeated(alloc, "int main(void){return ", "(", times, "1")?;
+    repeated(alloc, front.as_str(), ")", times, ";}")
+}
+
+#[test]
+fn refuses_sources_that_nest_too_deep(rt: HostRuntime) -> Result<(), Fail> {
+    let alloc = rt.alloc();
+    let deep = b"too large: nesting 200\n";
+    let most = in_pairs(alloc, 199)?;
+    let note = b"F:1:1: not in this version\n";
+    runs(&rt, alloc, most.as_str().as_bytes(), 3, b"", note)?;
+    let pairs = in_pairs(alloc, 200)?;
+    runs(&rt, alloc, pairs.as_str().as_bytes(), 8, b"", deep)?;
+    let no_tree = repeated(alloc, "int main(void){return ", "1?1,", 200, "")?;
+    runs(&rt, alloc, no_tree.as_str().as_bytes(), 8, b"", deep)?;
+    let sum = repeated(alloc, "int main(void){return 1", "+1", 200, ";}")?;
+    runs(&rt, alloc, sum.as_str().as_bytes(), 8, b"", deep)?;
+    let no_tokens = repeated(alloc, "int main(void){return ", "(", 200, "@")?;
+    let note = b"F:1:223: bad byte\n";
+    runs(&rt, alloc, no_tokens.as_str().as_bytes(), 3, b"", note)?;
     Ok(())
 }
 

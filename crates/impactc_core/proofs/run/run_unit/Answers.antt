@@ -1,7 +1,7 @@
 use Rattle.std.proofs.Common.{◌≡◌, Err}
 use Rattle.first_form.specs.declared.error.ReadErr.TheVariants.{NotFirstForm}
 use Rattle.impactc_core.proofs.Working.{refuses_form}
-use Rattle.impactc_core.proofs.run.run_tokens.Goals as goal
+use Rattle.impactc_core.proofs.run.run_unit.Goals as goal
 
 pub returns-in-Err-NotFirstForm-clause-refused : goal.returns-in-Err-NotFirstForm-clause-refused
 returns-in-Err-NotFirstForm-clause-refused g c =

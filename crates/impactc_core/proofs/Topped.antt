@@ -18,7 +18,7 @@ use Rattle.impactc_core.specs.declared.words.Command.TheVariants.{Run}
 use Rattle.impactc_core.specs.Answers.{IsPlain, HasProgram, IsPast, AnswerOf, RunAnswer, MayChange, Works, IsAnswersNote, NoteOf, Answers, IsCaused, IsRunnable}
 use Rattle.impactc_core.specs.Notes.{refusal_note, status_of, note_of}
 use Rattle.impactc_core.specs.Work.{NoteFor, LeavesNote}
-use Rattle.impactc_core.proofs.Working.{no_fault, no_depth}
+use Rattle.impactc_core.proofs.Fronts.{no_fault, no_depth}
 
 module _ (answer : Status → World → World → List ℕ → Type 0) (may : World → World → Type 0) (old mid : World) (work : Result Success CoreErr) (works : Works answer may old mid (status_of work) (note_of work)) where
   of_work : (status : Status) (whole : List ℕ) → IsPlain (status_of work) → whole ≡ note_of work → IsAnswersNote answer old mid whole

@@ -86,14 +86,23 @@ pub record RunsSource (bytes : List ℕ) (success : Success) (old new : World) :
   pub form : HasProgram bytes program
   pub runs : RunsProgram program success old new
 
--- Why a source within the limit was not run to its end: it is refused, and then nothing changed; or the run of its program broke off; or it
--- was not run for want of memory.
+-- why a source within the limit gives no program
+abbrev pub IsSourceErr : (file bytes : List ℕ) → CoreErr → Type 0
+IsSourceErr file bytes (Source name place reason) = (name ≡ file) × HasFault bytes place reason
+IsSourceErr file bytes (Large limit) = (limit ≡ Nesting) × NestsTooDeep bytes
+IsSourceErr file bytes Memory = ⊤
+IsSourceErr file bytes refusal = ⊥
+
+-- the run of a source's program broke off
+pub record BreaksOff (bytes : List ℕ) (refusal : CoreErr) (old new : World) : Type 0 where
+  pub program : Program
+  pub form : HasProgram bytes program
+  pub is_break : IsBreak refusal
+  pub prints : PrintsPartOf (source_meaning program) old new
+
+-- why a source within the limit was not run to its end: it gives no program, and then nothing changed; or its run broke off
 abbrev pub RefusesSource : (file bytes : List ℕ) → CoreErr → (old new : World) → Type 0
-RefusesSource file bytes (Source name place reason) old new = (name ≡ file) × HasFault bytes place reason × (new ≡ old)
-RefusesSource file bytes Host old new = (program : Program) × HasProgram bytes program × PrintsPartOf (source_meaning program) old new
-RefusesSource file bytes Memory old new = (new ≡ old) ⊎ ((program : Program) × HasProgram bytes program × PrintsPartOf (source_meaning program) old new)
-RefusesSource file bytes (Large limit) old new = (limit ≡ Nesting) × NestsTooDeep bytes × (new ≡ old)
-RefusesSource file bytes refusal old new = ⊥
+RefusesSource file bytes refusal old new = (IsSourceErr file bytes refusal × (new ≡ old)) ⊎ BreaksOff bytes refusal old new
 
 -- the lexer's refusal of a file
 abbrev pub lexical_refusal : List ℕ → LexErr → CoreErr

@@ -3,6 +3,7 @@
 
 mod core_err;
 mod file_name;
+mod front;
 mod notes;
 mod run;
 mod status;

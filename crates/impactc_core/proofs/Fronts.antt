@@ -39,19 +39,7 @@ same_tokens bytes a b one two = (unique bytes a b whole whole one two).0
 
 -- a source that has a unit, but the tokens of no program
 pub refuses_form : (file bytes : List ℕ) (tokens : List Token) → (unit : List Top) × HasUnit bytes tokens unit → ((program : Program) → IsFirstForm bytes tokens program → ⊥) → IsSourceErr file bytes (Source file (record { line = 1; col = 1 }) NotInThisVersion)
-refuses_form file bytes tokens has none = (
-  refl,
-  (
-    refl,
-    record {
-      tokens = tokens;
-      unit = has.0;
-      has = has.1;
-      none = λ program other.
-          none program (subst (λ (ts : List Token). IsFirstForm bytes ts program) (same_tokens bytes other.tokens tokens other.has.has.cut has.1.has.cut) other.form);
-    },
-  ),
-)
+refuses_form file bytes tokens has none = (refl, (refl, record { tokens = tokens; unit = has.0; has = has.1; none = none }))
 
 -- a source that has tokens, but no unit
 pub refuses_phrases : (file bytes : List ℕ) (tokens : List Token) (refusal : ParseErr) → AreTokens bytes tokens → Refuses tokens refusal → IsSourceErr file bytes (phrase_refusal file bytes tokens refusal)
@@ -69,7 +57,9 @@ no_fault content program has place (Lexical kind) stops =
     cc
 no_fault content program has place Syntax is =
     is.wrong.no_unit has.unit (subst (λ (ts : List Token). IsUnit ts has.unit) (same_tokens content has.tokens is.tokens has.has.has.cut is.has.cut) has.has.is_unit)
-no_fault content program has place NotInThisVersion is = is.1.none program has
+no_fault content program has place NotInThisVersion is =
+    let other = is.1 in
+    other.none program (subst (λ (ts : List Token). IsFirstForm content ts program) (same_tokens content has.tokens other.tokens has.has.has.cut other.has.has.cut) has.form)
 
 -- what has a program nests within the limit
 pub no_depth : (content : List ℕ) (program : Program) → HasProgram content program → NestsTooDeep content → ⊥

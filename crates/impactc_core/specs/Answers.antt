@@ -84,12 +84,12 @@ pub record HasWrongPhrase (content : List ℕ) (place : Place) : Type 0 where
   pub wrong : IsWrongAt tokens before
   pub at : place ≡ place_of content (slice_get tokens before)
 
--- the content has a unit, but no program of the first form
+-- the content has a unit, and its tokens are not in the first form
 pub record HasOtherForm (content : List ℕ) : Type 0 where
   pub tokens : List Token
   pub unit : List Top
   pub has : HasUnit content tokens unit
-  pub none : (program : Program) → HasProgram content program → ⊥
+  pub none : (program : Program) → IsFirstForm content tokens program → ⊥
 
 -- a quantity of the content that passes its limit; a later one holds that no earlier one does
 abbrev pub IsPast : List ℕ → Limit → Type 0

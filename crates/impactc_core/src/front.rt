@@ -13,6 +13,7 @@ use c_lex::{LexErr, end_place, lex};
 use c_parse::{ParseErr, parse};
 use first_form::{Program, ReadErr, read};
 use ib_base::Place;
+use sqlite_items::at;
 use std::alloc::Global;
 
 /// The refusal of a file that has no tokens.
@@ -37,7 +38,7 @@ fn place_behind(bytes: &[u8], tokens: &[Token], count: usize) -> Place
     requires { length bytes.now ≤ 1048576 }
     ensures { result ≡ place_of bytes.now (slice_get tokens.now count) }
 {
-    match tokens.get(count) {
+    match at(tokens, count) {
         Some(token) => token.place,
         None => end_place(bytes),
     }

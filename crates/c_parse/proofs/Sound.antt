@@ -14,7 +14,7 @@ use Rattle.c_ast.specs.Trees.{Ty, plain, declarator, Exp, call, unary, cast, bin
 use Rattle.c_ast.specs.Grammar as g
 use Rattle.c_parse.specs.Signs.{is}
 use Rattle.c_parse.specs.Machine as M
-use Rattle.c_parse.specs.Machine.{Declaring, declaring, Target, top, global, in_block, in_for, no_function, of_declarator, Made, Role, as_statement, as_value, as_first, as_second, as_third, Test, as_if, as_while, as_do, Frames, part, tested, init_value, element, prefix, cast_to, right, assigned, middle, other, first, list, parens, subscript, arg, a_declarator, State, choose, begins_assign, begins_expr, with_init, closer, goes_on, passed, step_declared, assign_if, if_tighter, follow, go_on}
+use Rattle.c_parse.specs.Machine.{Declaring, declaring, Target, top, global, in_block, in_for, no_function, of_declarator, Role, as_statement, as_value, as_first, as_second, as_third, Test, as_if, as_while, as_do, Frames, part, tested, init_value, element, prefix, cast_to, right, assigned, middle, other, first, list, parens, subscript, arg, a_declarator, State, choose, begins_assign, begins_expr, with_init, closer, goes_on, passed, step_declared, assign_if, if_tighter, follow}
 use Rattle.c_parse.proofs.Tokens.{is_true, none≢some, some≢none, low_level}
 use Rattle.c_parse.proofs.Derives.{Led, led, By, Climb, here, op, Goes, Passed, Sizes, EndDeclaration, Declared, Chooses, Indexed, Past, Typed, Operand, Derives, Derived}
 

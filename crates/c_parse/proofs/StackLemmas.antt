@@ -1,5 +1,5 @@
 -- A stack with one more on top.
-use Rattle.std.proofs.Common.{◌≡◌, ℕ, suc, List, [], ◌∷◌, ◌++◌, refl, sym, ◌∙◌, ap}
+use Rattle.std.proofs.Common.{◌≡◌, suc, List, [], ◌∷◌, ◌++◌, refl}
 use Rattle.c_parse.specs.declared.frames.Arm.{Arm}
 use Rattle.c_parse.specs.declared.frames.Arm.TheVariants as arm
 use Rattle.c_parse.specs.declared.frames.Frame.{Frame}

@@ -1,5 +1,5 @@
 -- The machine's states as plain data.
-use Rattle.std.specs.Prelude.{◌≡◌, ℕ, zero, suc, ◌<◌, ◌+◌, length, List, [], ◌∷◌, map, Option, Some, None, Result, Ok, Err}
+use Rattle.std.specs.Prelude.{◌≡◌, ℕ, suc, ◌<◌, length, List, [], ◌∷◌, map, Option, Some, None}
 use Rattle.c_ast.specs.declared.token.Token.{Token}
 use Rattle.c_ast.specs.Trees.{Exp, Stm}
 use Rattle.c_parse.specs.declared.frames.Head.{Head}

@@ -1,5 +1,6 @@
 -- The work of `run F`, put together.
 use Rattle.std.proofs.Common.{◌≡◌, inl, inr, ℕ, List, Result, Ok, Err, IfOk, IfErr, Some, refl, sym, ap, subst}
+use Rattle.std.specs.Prelude.{IsErrOf}
 use Rattle.ib_meaning.specs.Agreement.{HasOver, IsPrefix, out_of}
 use Rattle.ib_meaning.proofs.Agreement.{same_ends, prefix_refl}
 use Rattle.ib_base.specs.World.{World}
@@ -21,6 +22,12 @@ runs_source bytes program success old new has runs = record { program = program;
 
 pub refuses_source : (file bytes : List ℕ) (refusal : CoreErr) (w : World) → IsSourceErr file bytes refusal → RefusesSource file bytes refusal w w
 refuses_source file bytes refusal w is = inl (is, refl)
+
+-- what gives no program is no failure of the host
+pub no_host_fault : (file bytes : List ℕ) (refusal : CoreErr) → IsSourceErr file bytes refusal → IsErrOf {T = Success} (Err refusal) Host → ⊥
+no_host_fault file bytes refusal is e =
+    let same : refusal ≡ Host = cc in
+    subst (IsSourceErr file bytes) same is
 
 pub refuses_broken : (file bytes : List ℕ) (program : Program) (refusal : CoreErr) (old new : World) → HasProgram bytes program → IsBreak refusal → PrintsPartOf (source_meaning program) old new → RefusesSource file bytes refusal old new
 refuses_broken file bytes program refusal old new has is part = inr (record { program = program; form = has; is_break = is; prints = part })

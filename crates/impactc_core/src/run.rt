@@ -115,7 +115,7 @@ fn run_program<H: Host>(alloc: Global, program: &Program, host: &mut H) -> Resul
 }
 
 /// Compiles a source and runs its program.
-#[tactic(auto, using(crate::proofs::Working::runs_source, crate::proofs::Working::refuses_broken, crate::proofs::Working::refuses_source))]
+#[tactic(auto, using(crate::proofs::Working::runs_source, crate::proofs::Working::refuses_broken, crate::proofs::Working::refuses_source, crate::proofs::Working::no_host_fault))]
 fn run_source<H: Host>(
     alloc: Global,
     file: FileName,

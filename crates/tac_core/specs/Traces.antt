@@ -1,5 +1,5 @@
 -- Chains of blocks: each block in one chain, each with an edge to the next.
-use Rattle.std.specs.Prelude.{◌≡◌, ℕ, suc, ◌<◌, List, Option, Some, None, length, slice_get, slice_index_or}
+use Rattle.std.specs.Prelude.{◌≡◌, ℕ, suc, ◌<◌, List, [], ◌∷◌, Option, Some, None, length, map, slice_get, slice_index_or}
 use Rattle.tac_core.specs.declared.code.End.{End}
 use Rattle.tac_core.specs.declared.code.End.TheVariants.{Jump, Branch, Call, Ret}
 use Rattle.tac_core.specs.declared.code.Block.{Block}
@@ -10,6 +10,10 @@ use Rattle.tac_core.specs.Cover.{CopiedProgram}
 -- the labels of a chain, and the chains of a function
 abbrev pub Labels : Type 0
 Labels = List ℕ
+
+-- each label as a chain by itself
+abbrev pub apart : List ℕ → List Labels
+apart labels = map (λ l. l ∷ []) labels
 
 -- label l stands in chain c, at place k
 pub record StandsAt (chains : List Labels) (l c k : ℕ) : Type 0 where

@@ -8,6 +8,8 @@ mod copied;
 mod copies;
 mod count;
 mod counts;
+#[cfg(test)]
+mod cover_tests;
 mod edges;
 mod formed;
 mod labels;

@@ -27,13 +27,17 @@ impl Model for TacProgram {
 }
 
 impl TacProgram {
-    ghost use Rattle.std.specs.Prelude.{◌≡◌, ◌<◌, IfOk, MatchOption, length};
+    ghost use Rattle.std.specs.Prelude.{◌≡◌, ◌<◌, IfOk, IfSome, MatchOption, length};
+    ghost use Rattle.ib_meaning.specs.Agreement.{IsSteady};
+    ghost use Rattle.tac_core.specs.Meaning.{tac_meaning};
     ghost use Rattle.tac_core.specs.Program.{Program, main_of, capped, program_ops};
     ghost use Rattle.tac_core.specs.Rules.{IsValid};
 
-    /// The program of these parts, or `None` where they break a rule.
+    /// The program of these parts, or `None` where they break a rule. Running it for more steps only shows more.
+    #[tactic(auto, using(crate::proofs::Steady::tac_steady))]
     pub fn assemble(image: Vec<u8>, places: Vec<Place>, funcs: Vec<TacFunc>) -> Option<TacProgram>
-        ensures { let parts : Program = record { image = image.items; places = places.items; funcs = funcs.items } in MatchOption result (IsValid parts → ⊥) (λ p. (p ≡ parts) × IsValid parts) }
+        ensures exact { let parts : Program = record { image = image.items; places = places.items; funcs = funcs.items } in MatchOption result (IsValid parts → ⊥) (λ p. (p ≡ parts) × IsValid parts) }
+        ensures steady { IfSome result (λ p. IsSteady (tac_meaning p)) }
     {
         if keeps_rules(image.len(), places.len(), funcs.as_slice()) {
             Some(TacProgram {

@@ -248,6 +248,11 @@ fn wrong_shape(row: u32) -> Shape {
             ..SHAPE
         },
         8 => Shape { frame: 8, ..SHAPE },
+        9 => Shape {
+            main: b"f",
+            second: b"main",
+            ..SHAPE
+        },
         _ => Shape {
             frame: 262_160,
             ..SHAPE
@@ -295,7 +300,7 @@ fn wrong_ends(row: u32) -> Ends {
 
 #[test]
 fn refuses_wrong_functions(rt: HostRuntime) -> Result<(), Fail> {
-    for row in 0..10 {
+    for row in 0..11 {
         let valid = is_valid(rt.alloc(), &wrong_shape(row), &CODE, &ENDS)?;
         assert!(rt; !valid, "row {row}");
     }
@@ -393,7 +398,11 @@ fn counts_nothing_at_first(rt: HostRuntime) -> Result<(), Fail> {
 }
 
 /// `const r0 1` and a branch on r0, and blocks that return.
-fn branching(alloc: Global, no: u32, returns: usize) -> Result<Option<TacProgram>, AllocError> {
+pub(crate) fn branching(
+    alloc: Global,
+    no: u32,
+    returns: usize,
+) -> Result<Option<TacProgram>, AllocError> {
     let mut ops = Items::new(alloc);
     add_op(&mut ops, 0, Act::Const { to: 0, value: 1 })?;
     let mut blocks = Items::new(alloc);
@@ -412,6 +421,25 @@ fn branching(alloc: Global, no: u32, returns: usize) -> Result<Option<TacProgram
     let mut places = Vec::new(alloc);
     places.push(Place { line: 1, col: 1 })?;
     Ok(TacProgram::assemble(Vec::new(alloc), places, funcs))
+}
+
+/// A function `main` of so many blocks that return.
+fn returns_only(alloc: Global, blocks: usize) -> Result<Option<TacProgram>, AllocError> {
+    let mut list = Items::new(alloc);
+    for _ in 0..blocks {
+        list.push(empty_block(alloc, End::Ret(None)))?;
+    }
+    let main = main_of(alloc, &SHAPE, list)?;
+    let funcs = vec![in alloc; main]?;
+    let places = vec![in alloc; Place { line: 1, col: 1 }]?;
+    Ok(TacProgram::assemble(Vec::new(alloc), places, funcs))
+}
+
+#[test]
+fn wants_an_entry(rt: HostRuntime) -> Result<(), Fail> {
+    assert!(rt; returns_only(rt.alloc(), 0)?.is_none());
+    assert!(rt; returns_only(rt.alloc(), 1)?.is_some());
+    Ok(())
 }
 
 #[test]

@@ -1,0 +1,46 @@
+//! Tries what stands on three-address programs: it runs a loop with two budgets and prints its profiles, and times the
+//! calls at the greatest sizes that lowering makes. Times go to the standard error.
+#![tactic(auto)]
+
+mod large;
+mod programs;
+mod timed;
+
+use crate::programs::{calls_without_end, counting_loop};
+use ib_base::{MemHost, Outcome};
+use profile::run_counting;
+use profile_text::print_profile;
+use std::io;
+use tac_core::TacProgram;
+
+/// What was tried did not come out as it should.
+fn wrong() -> io::Error {
+    io::Error::from(io::ErrorKind::InvalidData)
+}
+
+/// Runs a program, and prints how it came out and the profile.
+fn show_run(rt: &HostRuntime, tac: &TacProgram, budget: u64) -> io::Result<()> {
+    let mut host = MemHost::new(rt.alloc(), b"")?;
+    let Ok((outcome, counts)) = run_counting(rt.alloc(), tac, &mut host, budget) else {
+        return Err(wrong());
+    };
+    match outcome {
+        Outcome::Ended(result) => println!(rt; "budget {budget}: ended {result}")?,
+        Outcome::Faulted { .. } => println!(rt; "budget {budget}: a fault")?,
+        Outcome::Spent => println!(rt; "budget {budget}: spent")?,
+    }
+    let text = print_profile(rt.alloc(), tac, &counts)?;
+    print!(rt; "{}", String::from_utf8_lossy(rt.alloc(), text.as_slice())?)
+}
+
+fn main(rt: HostRuntime) -> io::Result<()> {
+    let tac = counting_loop(rt.alloc(), 3)?.ok_or(wrong())?;
+    show_run(&rt, &tac, 14)?;
+    show_run(&rt, &tac, 13)?;
+    timed::sizes(&rt, 1, 200_000)?;
+    timed::sizes(&rt, 1_000, 200)?;
+    let turns = counting_loop(rt.alloc(), 2_000_000_000)?.ok_or(wrong())?;
+    timed::steps(&rt, "a small loop", &turns)?;
+    let calls = calls_without_end(rt.alloc())?.ok_or(wrong())?;
+    timed::steps(&rt, "a loop of calls", &calls)
+}

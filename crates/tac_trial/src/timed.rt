@@ -1,0 +1,83 @@
+use crate::large::{funcs_of, profile_of};
+use crate::wrong;
+use ib_base::{MemHost, Outcome, Place};
+use profile::run_counting;
+use profile_text::{print_profile, read_profile};
+use std::io;
+use std::time::Instant;
+use tac_core::{Counts, TacProgram};
+
+const MOST_TEXT: usize = 33_554_432;
+
+const STEPS: u64 = 1_000_000;
+
+fn show(rt: &HostRuntime, what: &str, start: Instant) -> io::Result<()> {
+    let took = start.elapsed(rt)?;
+    eprintln!(rt; "{what}: {} us", took.as_micros())
+}
+
+fn assembled(rt: &HostRuntime, funcs: u32, blocks: u32) -> io::Result<TacProgram> {
+    let alloc = rt.alloc();
+    let places = vec![in alloc; Place { line: 1, col: 1 }]?;
+    let list = funcs_of(alloc, funcs, blocks)?;
+    let start = Instant::now(rt)?;
+    let tac = TacProgram::assemble(Vec::new(alloc), places, list);
+    show(rt, "assemble", start)?;
+    tac.ok_or(wrong())
+}
+
+fn read(rt: &HostRuntime, tac: &TacProgram, text: &[u8]) -> io::Result<Counts> {
+    if text.len() > MOST_TEXT {
+        return Err(wrong());
+    }
+    let start = Instant::now(rt)?;
+    let counts = read_profile(rt.alloc(), text, tac);
+    show(rt, "read_profile", start)?;
+    match counts {
+        Ok(counts) => Ok(counts),
+        Err(_) => Err(wrong()),
+    }
+}
+
+fn printed(rt: &HostRuntime, tac: &TacProgram, counts: &Counts) -> io::Result<Vec<u8>> {
+    let start = Instant::now(rt)?;
+    let matches = counts.matches(tac);
+    show(rt, "matches", start)?;
+    if !matches {
+        return Err(wrong());
+    }
+    let start = Instant::now(rt)?;
+    let text = print_profile(rt.alloc(), tac, counts)?;
+    show(rt, "print_profile", start)?;
+    Ok(text)
+}
+
+/// Times a run of a million steps that does not end.
+pub fn steps(rt: &HostRuntime, what: &str, tac: &TacProgram) -> io::Result<()> {
+    let mut host = MemHost::new(rt.alloc(), b"")?;
+    let start = Instant::now(rt)?;
+    let run = run_counting(rt.alloc(), tac, &mut host, STEPS);
+    show(rt, what, start)?;
+    match run {
+        Ok((Outcome::Spent, _)) => println!(rt; "{what}: spent after {STEPS} steps"),
+        _ => Err(wrong()),
+    }
+}
+
+/// Times the calls on a program of so many functions, each of so many blocks.
+pub fn sizes(rt: &HostRuntime, funcs: u32, blocks: u32) -> io::Result<()> {
+    let tac = assembled(rt, funcs, blocks)?;
+    let text = profile_of(rt.alloc(), funcs, blocks)?;
+    println!(rt;
+        "functions {funcs}, operations {}, bytes of the profile {}",
+        tac.ops(),
+        text.len()
+    )?;
+    let counts = read(rt, &tac, text.as_bytes())?;
+    let back = printed(rt, &tac, &counts)?;
+    println!(rt;
+        "read and printed back: {}",
+        back.as_slice() == text.as_bytes()
+    )?;
+    steps(rt, "all blocks in turn", &tac)
+}

@@ -1,0 +1,16 @@
+pub mod Advances
+pub mod Asks
+pub mod Cases
+pub mod Does
+pub mod Fits
+pub mod Homes
+pub mod Late
+pub mod Places
+pub mod Plans
+pub mod Runs
+pub mod Sound
+pub mod Starts
+pub mod Steps
+pub mod Turns
+pub mod Widths
+pub mod Words

@@ -13,7 +13,8 @@ use Rattle.c_typed.specs.declared.expr.Storage.{Storage}
 use Rattle.c_typed.specs.Tree as t
 use Rattle.c_typed.specs.Tree.{Exp, Exps, Maybe, Stm, Stms, Function}
 use Rattle.c_typed.specs.Program.{Program, place_of}
-use Rattle.c_eval.specs.Values.{size_of, converted, is_true, operated, element, accessed}
+use Rattle.c_typed.specs.ValueTypes.{size_of}
+use Rattle.c_typed.specs.Values.{converted, is_true, operated, element, accessed}
 use Rattle.c_eval.specs.Doing.{State, Step, Doing, ◌>>=◌, pure, fault, or_fault, spend, get_slot, set_slot, address_of, load, store, get_byte, put_byte, put_number}
 use Rattle.c_eval.specs.Meaning.{Exits, turn, loop, eval, evals, part, exec, execs, overflows, entered, left_to, body_exits, enter, calls}
 

@@ -24,7 +24,6 @@ use Rattle.c_typed.specs.declared.program.Home.TheVariants as h
 use Rattle.c_typed.specs.Tree as t
 use Rattle.c_typed.specs.Tree.{Exp, exps, Stm, stms, Function}
 use Rattle.c_typed.specs.Program.{Program}
-use Rattle.c_eval.specs.Values.{operated, signed, converted, element}
 use Rattle.c_eval.specs.Meaning.{source_meaning, first_memory}
 
 abbrev int : ValueType
@@ -168,47 +167,6 @@ null_read = refl
 between : run (t.expression 1 (t.store int (n 4098) (n 1)) ∷ []) 0 ≡ Over (Faulted (at 1) BadAddress) [] []
 unfolding source_meaning int_wrap
 between = refl
-
--- of an array of ten numbers
-last_inside : element (pos 4096) 10 4 Inside (pos 9) ≡ Ok (pos 4132)
-unfolding int_wrap
-last_inside = refl
-
-none_behind : element (pos 4096) 10 4 Inside (pos 10) ≡ Err Bounds
-unfolding int_wrap
-none_behind = refl
-
-its_end : element (pos 4096) 10 4 ToEnd (pos 10) ≡ Ok (pos 4136)
-unfolding int_wrap
-its_end = refl
-
-none_before : element (pos 4096) 10 4 ToEnd (negsuc 0) ≡ Err Bounds
-unfolding int_wrap
-none_before = refl
-
-least_by_minus_one : operated (o.Integer a.Rem r.Int) (negsuc 2147483647) (negsuc 0) ≡ Err DivOverflow
-unfolding int_wrap
-least_by_minus_one = refl
-
-wraps : operated (o.Integer a.Add r.Int) (pos 2147483647) (pos 1) ≡ Ok (negsuc 2147483647)
-unfolding int_wrap
-wraps = refl
-
-elements_between : operated (o.Distance 4) (pos 4096) (pos 4102) ≡ Ok (negsuc 0)
-unfolding int_wrap
-elements_between = refl
-
-back : operated (o.Retreat 4) (pos 4096) (pos 2000) ≡ Ok (negsuc 3903)
-unfolding int_wrap
-back = refl
-
-to_char : converted (Base Char) (negsuc 0) ≡ pos 255
-unfolding int_wrap
-to_char = refl
-
-minus_least : signed s.Minus W4 (negsuc 2147483647) ≡ negsuc 2147483647
-unfolding int_wrap
-minus_least = refl
 
 -- `int f(int a){int b[1]; int x=b[0]; b[0]=a; return x+a;}`, with `a` in the frame, called by `return f(3)+f(4)*10;`
 abbrev first_cell : Exp

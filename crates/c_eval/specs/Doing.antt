@@ -12,7 +12,8 @@ use Rattle.c_typed.specs.declared.types.ValueType.{ValueType}
 use Rattle.c_typed.specs.declared.expr.Storage.{Storage}
 use Rattle.c_typed.specs.declared.expr.Storage.TheVariants.{Global, Frame}
 use Rattle.c_typed.specs.Program.{Program}
-use Rattle.c_eval.specs.Values.{size_of, converted, further, accessed}
+use Rattle.c_typed.specs.ValueTypes.{size_of}
+use Rattle.c_typed.specs.Values.{converted, further, accessed}
 
 pub record State : Type 0 where
   -- what is left of it

@@ -14,7 +14,8 @@ use Rattle.c_typed.specs.declared.program.Param.{Param}
 use Rattle.c_typed.specs.Tree as t
 use Rattle.c_typed.specs.Tree.{Exp, Exps, Maybe, Stm, Stms, Function}
 use Rattle.c_typed.specs.Program.{Program, main_of, first_frame, place_of}
-use Rattle.c_eval.specs.Values.{size_of, converted, is_true, truth, ranked, further, operated, signed, element}
+use Rattle.c_typed.specs.ValueTypes.{size_of}
+use Rattle.c_typed.specs.Values.{converted, is_true, truth, ranked, further, operated, signed, element}
 use Rattle.c_eval.specs.Doing.{State, Step, Doing, ◌>>=◌, ◌>>◌, pure, stop, fault, or_fault, spend, get_slot, set_slot, address_of, load, store, get_byte, put_byte, put_number}
 
 -- where a statement may go

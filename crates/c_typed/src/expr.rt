@@ -7,7 +7,7 @@ pub enum Storage {
     /// The number of a global, in the order of the source.
     Global(u32),
     /// Bytes from the frame's start on.
-    Frame(u32),
+    Frame(u64),
 }
 
 /// Which indices of a declared array are within its bounds.
@@ -41,7 +41,7 @@ pub enum Expr {
     Element {
         ty: ValueType,
         array: Storage,
-        length: u32,
+        length: u64,
         size: u32,
         reach: Reach,
         index: Box<Expr>,

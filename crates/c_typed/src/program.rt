@@ -8,7 +8,7 @@ pub enum Home {
     /// In the environment, by its number there.
     Slot(u32),
     /// In the frame, so many bytes from its start on.
-    Frame(u32),
+    Frame(u64),
 }
 
 /// A parameter, whose type its argument was converted to.
@@ -25,7 +25,7 @@ pub struct Function {
     pub result: ValueType,
     pub params: Vec<Param>,
     pub slots: u32,
-    pub frame: u32,
+    pub frame: u64,
     pub body: Vec<Stmt>,
 }
 

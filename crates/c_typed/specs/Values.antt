@@ -28,15 +28,6 @@ width_of (v.Base Char) = W1
 width_of (v.Base Int) = W4
 width_of ty = W8
 
-abbrev pub bytes_in : Width → ℕ
-bytes_in W1 = 1
-bytes_in W4 = 4
-bytes_in W8 = 8
-
--- in bytes
-abbrev pub size_of : ValueType → ℕ
-size_of ty = bytes_in (width_of ty)
-
 -- as a value of the type
 abbrev pub converted : ValueType → ℤ → ℤ
 converted ty x = wrapped (width_of ty) x

@@ -56,14 +56,29 @@ fn copies_a_copy(rt: HostRuntime) -> Result<(), Fail> {
     Ok(())
 }
 
+/// How many chains a function has.
+fn chain_count(formed: &Formed, func: u32) -> Option<usize> {
+    let chains = formed.traces().chains(func)?;
+    Some(chains.len())
+}
+
+/// How long the last chain of a function is.
+fn last_length(formed: &Formed, func: u32) -> Option<usize> {
+    let chain = formed.traces().chains(func)?.last()?;
+    Some(chain.list().len())
+}
+
+fn op_count(formed: &Formed) -> u64 {
+    formed.copied().tac().ops()
+}
+
 #[test]
 fn forms_chains_of_one_block(rt: HostRuntime) -> Result<(), Fail> {
     let tac = branching(rt.alloc(), 2, 2)?.ok_or("valid")?;
     let formed = formed_apart(rt.alloc(), &tac)?;
-    assert_eq!(rt; formed.copied().tac().ops(), 4);
-    let chains = formed.traces().chains(0).ok_or("chains")?;
-    assert_eq!(rt; chains.len(), 3);
-    assert_eq!(rt; chains.last().ok_or("a chain")?.list(), [2].as_slice());
-    assert!(rt; formed.traces().chains(1).is_none());
+    assert_eq!(rt; op_count(&formed), 4);
+    assert_eq!(rt; chain_count(&formed, 0), Some(3));
+    assert_eq!(rt; chain_count(&formed, 1), None);
+    assert_eq!(rt; last_length(&formed, 0), Some(1));
     Ok(())
 }

@@ -70,14 +70,18 @@ fn sum(x: Operand, y: Operand) -> Option<Choice>
         arithmetic(Arithmetic::Add, x, y)
     } else if x.ty.leads() && y.ty.is_integer() {
         Some(Choice {
-            op: Operation::Advance { size: x.ty.pointee().size() },
+            op: Operation::Advance {
+                size: x.ty.pointee().size(),
+            },
             left: x.ty,
             right: y.ty,
             result: x.ty,
         })
     } else if x.ty.is_integer() && y.ty.leads() {
         Some(Choice {
-            op: Operation::AdvanceBy { size: y.ty.pointee().size() },
+            op: Operation::AdvanceBy {
+                size: y.ty.pointee().size(),
+            },
             left: x.ty,
             right: y.ty,
             result: y.ty,

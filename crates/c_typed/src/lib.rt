@@ -6,6 +6,8 @@ mod expr;
 mod operation;
 mod program;
 mod stmt;
+#[cfg(test)]
+mod tests;
 mod types;
 
 pub use choice::{Choice, Operand, branches, chosen, fits};

@@ -18,6 +18,7 @@ pub enum ValueType {
 }
 
 pub const INT: ValueType = ValueType::Base(Base::Int);
+
 pub const LONG: ValueType = ValueType::Base(Base::Long);
 
 fn base_size(base: Base) -> u32
@@ -83,10 +84,7 @@ impl ValueType {
     pub fn is_integer(self) -> bool
         ensures { result ≡ is_integer self }
     {
-        matches!(
-            self,
-            ValueType::Base(Base::Char | Base::Int | Base::Long)
-        )
+        matches!(self, ValueType::Base(Base::Char | Base::Int | Base::Long))
     }
 
     /// Whether it is a pointer, `NULL` included.

@@ -5,8 +5,9 @@ use Rattle.std.specs.Option.{option_map}
 use Rattle.std.proofs.lemmas.List.{length-map}
 use Rattle.std.proofs.lemmas.Option.{slice_get-map, slice_get_within}
 use Rattle.tac_core.specs.declared.code.TacFunc.{TacFunc}
-use Rattle.tac_core.specs.Cover.{upto, own_labels}
-use Rattle.tac_core.specs.Traces.{Labels, apart, StandsAt, ArePartition, AreChains, HasNoSideEntrance, AreTraces, AreFormed}
+use Rattle.tac_core.specs.Program.{Program}
+use Rattle.tac_core.specs.Cover.{Origins, CopiedProgram, upto, own_labels}
+use Rattle.tac_core.specs.Traces.{Labels, apart, StandsAt, ArePartition, AreChains, HasNoSideEntrance, AreFormed}
 use Rattle.tac_core.proofs.Lists.{upto_get, length-upto}
 
 -- where a label stands: in the chain of its own number, at the front
@@ -63,7 +64,7 @@ same_chains : (funcs : List TacFunc) (i : ℕ) (f : TacFunc) (chains : List Labe
 same_chains funcs i f chains is there =
     let both : Some (apart (upto (length f.blocks))) ≡ Some chains = sym (apart_at funcs i f is) ∙ there in cc
 
-pub apart_formed : (funcs : List TacFunc) → AreFormed funcs (map apart (own_labels funcs))
+apart_formed : (funcs : List TacFunc) → AreFormed funcs (map apart (own_labels funcs))
 apart_formed funcs = record {
   chained = record {
     many = length-map (own_labels funcs) apart ∙ length-map funcs (λ f. upto (length f.blocks));
@@ -71,3 +72,9 @@ apart_formed funcs = record {
   };
   entered = λ i f chains is there. subst (HasNoSideEntrance f) (same_chains funcs i f chains is there) (apart_entered f);
 }
+
+-- a copy that has each block once, with each block as a chain by itself
+pub copy_formed : (copied : CopiedProgram) (p : Program) (funcs : List TacFunc) (labels : List Origins) (traces : List (List Labels)) → copied.tac ≡ p → funcs ≡ p.funcs → labels ≡ own_labels funcs → traces ≡ map apart labels → AreFormed copied.tac.funcs traces
+copy_formed copied p funcs labels traces copy read own chains =
+    let same : p.funcs ≡ copied.tac.funcs = ap (λ (q : Program). q.funcs) (sym copy) in
+    subst (AreFormed copied.tac.funcs) (sym (chains ∙ ap (map apart) (own ∙ ap own_labels (read ∙ same)))) (apart_formed copied.tac.funcs)

@@ -1,10 +1,10 @@
 -- A copy means what its origin means.
-use Rattle.std.proofs.Common.{◌≡◌, ℕ, zero, suc, ◌+◌, List, [], ◌∷◌, Option, Some, None, ℤ, pos, refl, sym, ap, ap₂, ◌∙◌, subst, arith}
-use Rattle.std.specs.Prelude.{map, slice_get, Bool, true, false, nat_lt, length, replicate}
+use Rattle.std.proofs.Common.{◌≡◌, ℕ, zero, suc, ◌+◌, List, [], ◌∷◌, Option, Some, None, ℤ, pos, refl, sym, ap, ◌∙◌, subst}
+use Rattle.std.specs.Prelude.{map, slice_get, Bool, true, false, length}
 use Rattle.ib_mem.specs.Memory.{cleared}
 use Rattle.ib_meaning.specs.declared.place.Place.{Place}
 use Rattle.ib_meaning.specs.Agreement.{Agrees}
-use Rattle.ib_meaning.specs.Machine.{Machine, Step, Goes, Stops, means}
+use Rattle.ib_meaning.specs.Machine.{means}
 use Rattle.ib_meaning.proofs.Agreement.{AreSame, agree_by_same}
 use Rattle.ib_meaning.proofs.Simulation.{Alike, means_alike}
 use Rattle.tac_core.specs.declared.code.TacOp.{TacOp}
@@ -13,8 +13,8 @@ use Rattle.tac_core.specs.declared.code.End.TheVariants.{Jump, Branch, Call, Ret
 use Rattle.tac_core.specs.declared.code.Block.{Block}
 use Rattle.tac_core.specs.declared.code.TacFunc.{TacFunc}
 use Rattle.tac_core.specs.Program.{Program, names, main_in}
-use Rattle.tac_core.specs.Meaning.{Here, Waiting, State, Lost, In, reg_of, number_in, block_of, frame_of, go, first_regs, call, overflows, target_of, set_in, place_of, Effect, Does, Fails, effect_of, after_act, do_return, do_call, do_end_of, do_end, tac_step, start_at, tac_meaning, first_frame, first_memory}
-use Rattle.tac_core.specs.Cover.{Origins, IsFrom, IsEndFrom, IsBlockFrom, IsFuncFrom, AreFuncsFrom, Covers}
+use Rattle.tac_core.specs.Meaning.{Waiting, State, Lost, In, reg_of, number_in, block_of, frame_of, go, first_regs, call, overflows, target_of, set_in, place_of, Effect, Does, Fails, effect_of, after_act, do_return, do_call, do_end_of, do_end, tac_step, start_at, tac_meaning, first_frame, first_memory}
+use Rattle.tac_core.specs.Cover.{Origins, IsFrom, IsEndFrom, IsBlockFrom, AreFuncsFrom, Covers}
 
 -- the origins of a function, none where the function is missing
 abbrev IsFrom_in : Option Origins → ℕ → ℕ → Type 0

@@ -1,7 +1,7 @@
 -- The count of an edge, found among edges that rise.
-use Rattle.std.proofs.Common.{◌≡◌, ℕ, zero, suc, ◌<◌, ◌≤◌, List, [], ◌∷◌, Option, Some, None, Bool, true, false, length, slice_get, refl, sym, ap, ◌∙◌, subst, arith, ⊎_elim, lit<, get_or, nat_lt, ◌&&◌, ◌||◌, if◌then◌else◌}
+use Rattle.std.proofs.Common.{◌≡◌, ℕ, zero, suc, ◌<◌, List, [], ◌∷◌, Some, true, false, length, slice_get, refl, sym, ap, subst, arith, ⊎_elim, lit<, get_or, ◌&&◌, if◌then◌else◌}
 use Rattle.std.specs.Prelude.{◌==◌, map}
-use Rattle.std.specs.List.{All, AllPairs, AllWithin}
+use Rattle.std.specs.List.{All, AllWithin}
 use Rattle.std.specs.List.Sorted.{IsPartitionedBy}
 use Rattle.std.proofs.lemmas.List.Elements.{All-head, All-tail, All-map, All-nil}
 use Rattle.std.proofs.lemmas.Bool.Decides.{nat_tests}

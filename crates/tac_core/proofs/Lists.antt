@@ -1,15 +1,14 @@
 -- The numbers below a number, and elements by their place.
-use Rattle.std.proofs.Common.{◌≡◌, ◌↔◌, ◌<◌, ◌≤◌, ◌+◌, ℕ, zero, suc, List, [], ◌∷◌, ◌++◌, Option, Some, length, subst, refl, sym, ap, ◌∙◌, ⊎_elim, arith, length-append, add-one, Bool, true, false, get_or}
+use Rattle.std.proofs.Common.{◌≡◌, ◌<◌, ◌≤◌, ◌+◌, ℕ, zero, suc, List, [], ◌∷◌, ◌++◌, Some, length, subst, refl, sym, ap, ◌∙◌, ⊎_elim, arith, length-append, add-one, true, false, get_or}
 use Rattle.std.proofs.lemmas.Bool.{cases_lt}
 use Rattle.std.proofs.lemmas.Option.{slice_get_within, get_or_from_slice_get}
 use Rattle.tac_core.specs.Cover.{upto}
 use Rattle.tac_core.specs.declared.code.TacFunc.{TacFunc}
-use Rattle.tac_core.specs.Program.{Program, main_name, main_in}
+use Rattle.tac_core.specs.Program.{main_name, main_in}
 use Rattle.tac_core.specs.Rules.{IsMain}
 use Rattle.std.specs.Prelude.{map, slice_get, bytes_eq}
 use Rattle.std.specs.List.{All, Any}
-use Rattle.std.proofs.lemmas.List.{get_or-map, get_or_default, length-map}
-use Rattle.std.proofs.lemmas.List.Elements.{All-map}
+use Rattle.std.proofs.lemmas.List.{get_or_default}
 
 pub slice_get_front : {X : Type 0} (xs ys : List X) (i : ℕ) → i < length xs → slice_get (xs ++ ys) i ≡ slice_get xs i
 slice_get_front [] ys i lt = absurd (omega arith)

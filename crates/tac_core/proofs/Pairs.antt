@@ -1,6 +1,6 @@
 -- Pairs of a list, as a loop over it finds them.
 use Rattle.std.proofs.Common.{◌≡◌, ℕ, ◌+◌, ◌<◌, List, [], ◌∷◌, ◌++◌, length, get_or, take, arith, subst, sym, ap, ◌∙◌}
-use Rattle.std.proofs.lemmas.List.{get_or-take, get_or_default, length-take, take_more, take_all}
+use Rattle.std.proofs.lemmas.List.{get_or-take, get_or_default, length-take, take_more}
 use Rattle.std.proofs.lemmas.List.Quantifiers.{all_pairs_push}
 use Rattle.std.specs.List.{All, AllPairs}
 

@@ -1,6 +1,6 @@
 -- A copy of a copy is a copy.
 use Rattle.std.proofs.Common.{◌≡◌, min, ◌⊎◌, inl, inr, ◌+◌, ◌++◌, get_or, take, ℕ, zero, suc, ◌<◌, ◌≤◌, List, [], ◌∷◌, Option, Some, None, length, refl, sym, ap, ap₂, ◌∙◌, subst, ⊎_elim, arith}
-use Rattle.std.specs.Prelude.{map, slice_get, slice_index_or}
+use Rattle.std.specs.Prelude.{slice_get, slice_index_or}
 use Rattle.std.specs.Option.{option_map}
 use Rattle.std.proofs.lemmas.List.{length-map}
 use Rattle.std.proofs.Math.Seq.{take-nil}

@@ -1,5 +1,5 @@
 -- How often the edges of a program were taken and its functions were entered.
-use Rattle.std.specs.Prelude.{◌≡◌, ℕ, zero, suc, ◌<◌, ◌==◌, nat_lt, ◌&&◌, ◌||◌, if◌then◌else◌, Bool, true, ◌⊎◌, List, [], ◌∷◌, Option, Some, None, length, map, slice_get, slice_index_or}
+use Rattle.std.specs.Prelude.{◌≡◌, ℕ, ◌<◌, ◌==◌, nat_lt, ◌&&◌, ◌||◌, if◌then◌else◌, Bool, true, ◌⊎◌, List, [], ◌∷◌, Option, Some, None, length, slice_get, slice_index_or}
 use Rattle.std.specs.List.{All, AllPairs}
 use Rattle.tac_core.specs.declared.code.End.{End}
 use Rattle.tac_core.specs.declared.code.End.TheVariants.{Jump, Branch, Call, Ret}
@@ -7,7 +7,6 @@ use Rattle.tac_core.specs.declared.code.Block.{Block}
 use Rattle.tac_core.specs.declared.code.TacFunc.{TacFunc}
 use Rattle.tac_core.specs.declared.edges.Edge.{Edge}
 use Rattle.tac_core.specs.declared.counts.FuncCounts.{FuncCounts}
-use Rattle.tac_core.specs.Meaning.{block_of}
 use Rattle.tac_core.specs.Program.{Program}
 
 -- the edge from a to b comes before the one from c to d

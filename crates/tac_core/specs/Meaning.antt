@@ -1,15 +1,14 @@
 -- What a three-address program does, one operation or end of a block a step.
-use Rattle.std.specs.Prelude.{◌≡◌, ℕ, zero, suc, ◌+◌, ◌*◌, ◌/◌, List, [], ◌∷◌, Option, Some, None, Result, Ok, Err, ℤ, pos, negsuc, map, replicate, slice_get, slice_index_or, slice_set, Bool, true, false, ◌||◌, nat_lt, nat_le, length, unsigned_abs, if◌then◌else◌}
+use Rattle.std.specs.Prelude.{ℕ, zero, suc, ◌+◌, ◌*◌, ◌/◌, List, [], ◌∷◌, Option, Some, None, Result, Ok, Err, ℤ, pos, negsuc, map, replicate, slice_get, slice_index_or, slice_set, Bool, true, false, ◌||◌, nat_lt, nat_le, length, unsigned_abs}
 use Rattle.std.specs.Int.{w64, cast_unsigned, int_rem_euclid}
 use Rattle.std.specs.Fmt.{signed_decimal}
-use Rattle.ib_base.specs.declared.integers.Width.{Width}
 use Rattle.ib_base.specs.declared.integers.Width.TheVariants.{W4}
 use Rattle.ib_base.specs.Integers.{wrapped}
 use Rattle.ib_mem.specs.Memory.{zeros, filled, cleared, stored}
 use Rattle.ib_meaning.specs.declared.place.Place.{Place}
 use Rattle.ib_meaning.specs.declared.fault.FaultKind.{FaultKind}
 use Rattle.ib_meaning.specs.declared.fault.FaultKind.TheVariants.{BadAddress, StackOverflow}
-use Rattle.ib_meaning.specs.Agreement.{Meaning, Finish, Returned, Faulted}
+use Rattle.ib_meaning.specs.Agreement.{Meaning, Returned, Faulted}
 use Rattle.ib_meaning.specs.Machine.{Machine, Step, Goes, Stops, means}
 use Rattle.ib_act.specs.declared.act.Act.{Act}
 use Rattle.ib_act.specs.declared.act.Act.TheVariants.{Store, Get, PutByte, PutNumber}

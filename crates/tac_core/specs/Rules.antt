@@ -1,5 +1,5 @@
 -- The rules that a valid program keeps.
-use Rattle.std.specs.Prelude.{◌≡◌, ◌≢◌, ℕ, ◌+◌, ◌%◌, ◌<◌, ◌≤◌, nat_le, ◌&&◌, ◌||◌, Bool, IsTrue, List, [], ◌∷◌, Option, Some, None, length, map, slice_get, IfSome, MatchOption}
+use Rattle.std.specs.Prelude.{◌≡◌, ◌≢◌, ℕ, ◌%◌, ◌<◌, ◌≤◌, nat_le, ◌&&◌, ◌||◌, Bool, IsTrue, List, [], ◌∷◌, Option, length, slice_get, IfSome, MatchOption}
 use Rattle.std.specs.List.{All, AllPairs, Any}
 use Rattle.ib_act.specs.declared.act.Act.{Act}
 use Rattle.tac_core.specs.declared.code.TacOp.{TacOp}

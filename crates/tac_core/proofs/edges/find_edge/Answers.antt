@@ -1,4 +1,4 @@
-use Rattle.std.proofs.Common.{rules, sym, ◌∙◌}
+use Rattle.std.proofs.Common.{rules}
 use Rattle.tac_core.proofs.Found.{parted, no_edge}
 use Rattle.tac_core.proofs.edges.find_edge.Goals as goal
 

@@ -1,4 +1,4 @@
-use Rattle.std.proofs.Common.{◌≢◌, refl, arith, subst, sym, get_or, take}
+use Rattle.std.proofs.Common.{◌≢◌, refl, subst, get_or}
 use Rattle.std.proofs.lemmas.List.{take_all, get_or_default}
 use Rattle.tac_core.specs.Rules.{AreDistinct}
 use Rattle.tac_core.proofs.Pairs.{pairs_earlier, pairs_more}

@@ -1,4 +1,4 @@
-use Rattle.std.proofs.Common.{◌≡◌, ◌+◌, take}
+use Rattle.std.proofs.Common.{◌≡◌, take}
 use Rattle.std.specs.List.{sum_by}
 use Rattle.tac_core.specs.Program.{func_ops, capped}
 use Rattle.tac_core.proofs.program.TacProgram.ops.Given as goal

@@ -2,6 +2,8 @@
 //! calls at the greatest sizes that lowering makes. Times go to the standard error.
 #![tactic(auto)]
 
+ghost use Rattle.tac_core.specs.Counts.{AreOf};
+
 mod large;
 mod programs;
 mod timed;
@@ -11,11 +13,26 @@ use ib_base::{MemHost, Outcome};
 use profile::run_counting;
 use profile_text::print_profile;
 use std::io;
-use tac_core::TacProgram;
+use tac_core::{Counts, TacProgram};
 
 /// What was tried did not come out as it should.
 fn wrong() -> io::Error {
     io::Error::from(io::ErrorKind::InvalidData)
+}
+
+fn show_profile(rt: &HostRuntime, tac: &TacProgram, counts: &Counts) -> io::Result<()>
+    requires { AreOf counts.now tac.now }
+{
+    let text = print_profile(rt.alloc(), tac, counts)?;
+    print!(rt; "{}", String::from_utf8_lossy(rt.alloc(), text.as_slice())?)
+}
+
+fn show_outcome(rt: &HostRuntime, budget: u64, outcome: Outcome) -> io::Result<()> {
+    match outcome {
+        Outcome::Ended(result) => println!(rt; "budget {budget}: ended {result}"),
+        Outcome::Faulted { .. } => println!(rt; "budget {budget}: a fault"),
+        Outcome::Spent => println!(rt; "budget {budget}: spent"),
+    }
 }
 
 /// Runs a program, and prints how it came out and the profile.
@@ -24,23 +41,26 @@ fn show_run(rt: &HostRuntime, tac: &TacProgram, budget: u64) -> io::Result<()> {
     let Ok((outcome, counts)) = run_counting(rt.alloc(), tac, &mut host, budget) else {
         return Err(wrong());
     };
-    match outcome {
-        Outcome::Ended(result) => println!(rt; "budget {budget}: ended {result}")?,
-        Outcome::Faulted { .. } => println!(rt; "budget {budget}: a fault")?,
-        Outcome::Spent => println!(rt; "budget {budget}: spent")?,
-    }
-    let text = print_profile(rt.alloc(), tac, &counts)?;
-    print!(rt; "{}", String::from_utf8_lossy(rt.alloc(), text.as_slice())?)
+    show_outcome(rt, budget, outcome)?;
+    show_profile(rt, tac, &counts)
+}
+
+fn show_loop(rt: &HostRuntime) -> io::Result<()> {
+    let tac = counting_loop(rt.alloc(), 3)?.ok_or(wrong())?;
+    show_run(rt, &tac, 14)?;
+    show_run(rt, &tac, 13)
+}
+
+fn time_loops(rt: &HostRuntime) -> io::Result<()> {
+    let turns = counting_loop(rt.alloc(), 2_000_000_000)?.ok_or(wrong())?;
+    timed::steps(rt, "a small loop", &turns)?;
+    let calls = calls_without_end(rt.alloc())?.ok_or(wrong())?;
+    timed::steps(rt, "a loop of calls", &calls)
 }
 
 fn main(rt: HostRuntime) -> io::Result<()> {
-    let tac = counting_loop(rt.alloc(), 3)?.ok_or(wrong())?;
-    show_run(&rt, &tac, 14)?;
-    show_run(&rt, &tac, 13)?;
+    show_loop(&rt)?;
     timed::sizes(&rt, 1, 200_000)?;
     timed::sizes(&rt, 1_000, 200)?;
-    let turns = counting_loop(rt.alloc(), 2_000_000_000)?.ok_or(wrong())?;
-    timed::steps(&rt, "a small loop", &turns)?;
-    let calls = calls_without_end(rt.alloc())?.ok_or(wrong())?;
-    timed::steps(&rt, "a loop of calls", &calls)
+    time_loops(&rt)
 }

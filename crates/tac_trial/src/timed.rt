@@ -64,20 +64,26 @@ pub fn steps(rt: &HostRuntime, what: &str, tac: &TacProgram) -> io::Result<()> {
     }
 }
 
-/// Times the calls on a program of so many functions, each of so many blocks.
-pub fn sizes(rt: &HostRuntime, funcs: u32, blocks: u32) -> io::Result<()> {
-    let tac = assembled(rt, funcs, blocks)?;
+fn is_read_back(rt: &HostRuntime, tac: &TacProgram, text: &[u8]) -> io::Result<bool> {
+    let counts = read(rt, tac, text)?;
+    let back = printed(rt, tac, &counts)?;
+    Ok(back.as_slice() == text)
+}
+
+fn reads_back(rt: &HostRuntime, tac: &TacProgram, funcs: u32, blocks: u32) -> io::Result<()> {
     let text = profile_of(rt.alloc(), funcs, blocks)?;
     println!(rt;
         "functions {funcs}, operations {}, bytes of the profile {}",
         tac.ops(),
         text.len()
     )?;
-    let counts = read(rt, &tac, text.as_bytes())?;
-    let back = printed(rt, &tac, &counts)?;
-    println!(rt;
-        "read and printed back: {}",
-        back.as_slice() == text.as_bytes()
-    )?;
+    let same = is_read_back(rt, tac, text.as_bytes())?;
+    println!(rt; "read and printed back: {same}")
+}
+
+/// Times the calls on a program of so many functions, each of so many blocks.
+pub fn sizes(rt: &HostRuntime, funcs: u32, blocks: u32) -> io::Result<()> {
+    let tac = assembled(rt, funcs, blocks)?;
+    reads_back(rt, &tac, funcs, blocks)?;
     steps(rt, "all blocks in turn", &tac)
 }

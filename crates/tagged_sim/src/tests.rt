@@ -338,9 +338,9 @@ fn ending(alloc: Global, ops: Vec<(WideOp, WideOp)>) -> Result<Items<Word>, Allo
     Ok(words)
 }
 
-/// Whether 1, shifted by the count, prints so.
-fn shifts(alloc: Global, size: Size, count: i64, text: &[u8]) -> Result<bool, SimErr> {
-    let shift = Act::ShiftLeft {
+/// Words that print 1, shifted by the count.
+fn shift(alloc: Global, size: Size, count: i64) -> Result<Items<Word>, AllocError> {
+    let act = Act::ShiftLeft {
         size,
         to: 2,
         left: 0,
@@ -349,11 +349,16 @@ fn shifts(alloc: Global, size: Size, count: i64, text: &[u8]) -> Result<bool, Si
     let ops = vec![in alloc;
         early(1, number(0, 1)),
         early(2, number(1, count)),
-        early(3, shift),
+        early(3, act),
         show(4, 2),
         op(5, false, WideAct::Return(None)),
     ]?;
-    let (how, printed) = outcome::<Four>(alloc, alone(alloc, ops)?, b"")?;
+    alone(alloc, ops)
+}
+
+/// Whether 1, shifted by the count, prints so.
+fn shifts(alloc: Global, size: Size, count: i64, text: &[u8]) -> Result<bool, SimErr> {
+    let (how, printed) = outcome::<Four>(alloc, shift(alloc, size, count)?, b"")?;
     Ok(how == ended(0, 5) && printed.as_slice() == text)
 }
 
@@ -411,10 +416,10 @@ fn printer(alloc: Global) -> Result<WideFunc, AllocError> {
     })
 }
 
-fn call_printer(alloc: Global, number: u32, next: u32, result: Loc) -> Result<WideOp, AllocError> {
+fn call_printer(alloc: Global, number: u32, next: u32, to: Loc) -> Result<WideOp, AllocError> {
     let args = vec![in alloc; 0, 1]?;
     let call = WideAct::Call {
-        result: Some(result),
+        result: Some(to),
         func: 1,
         next,
         args: Items::from_vec(args),

@@ -1,8 +1,7 @@
 -- Behind a word the simulator stands for the machine's next state.
-use Rattle.std.proofs.Common.{◌≡◌, ℕ, zero, suc, ◌+◌, ◌<◌, ◌≤◌, ℤ, pos, true, false, not, List, [], ◌∷◌, length, drop, map, Option, Some, None, refl, sym, ap, ◌∙◌, subst}
-use Rattle.std.specs.List.{list_all}
+use Rattle.std.proofs.Common.{◌≡◌, ℕ, suc, ◌+◌, ℤ, pos, true, false, not, List, [], ◌∷◌, length, drop, map, Option, Some, None, refl, sym, ap, ◌∙◌, subst}
 use Rattle.ib_base.specs.World.{World}
-use Rattle.ib_meaning.specs.Machine.{Step, Goes, Stops}
+use Rattle.ib_meaning.specs.Machine.{Step, Goes}
 use Rattle.ib_run.specs.OverHost.{OverHost}
 use Rattle.ib_run.proofs.OverHost.{over_none, over_weaken}
 use Rattle.ib_run.specs.Path.{printed_of}
@@ -15,7 +14,7 @@ use Rattle.tagged_core.specs.declared.code.Tagged.{Tagged}
 use Rattle.tagged_core.specs.declared.code.Tagged.TheVariants.{Clear}
 use Rattle.tagged_core.specs.declared.code.WideFunc.{WideFunc}
 use Rattle.tagged_core.specs.declared.code.Word.{Word}
-use Rattle.tagged_core.specs.Cycle.{Timed, Times, any_late, times_after, target_if}
+use Rattle.tagged_core.specs.Cycle.{Times, any_late, times_after}
 use Rattle.tagged_core.specs.Meaning.{Running, Clock, Call, Waiting, func_of, wide_step, word_outcome, put_all, leave, resumed}
 use Rattle.tagged_core.specs.Parts.{words_of, frame_of, params_of, overflows}
 use Rattle.tagged_core.specs.Operation.{To, Into}
@@ -25,20 +24,19 @@ use Rattle.tagged_core.proofs.Both.{both_first}
 use Rattle.tagged_sim.specs.declared.frame.Frame.{Frame}
 use Rattle.tagged_sim.specs.declared.frame.Suspended.{Suspended}
 use Rattle.tagged_sim.specs.declared.next.Next.{Next}
-use Rattle.tagged_sim.specs.declared.next.Next.TheVariants.{Word as WordNext, Call as Calls, Return as Returns, Report as Reports}
-use Rattle.tagged_sim.specs.declared.outcome.Stepped.{Stepped}
+use Rattle.tagged_sim.specs.declared.next.Next.TheVariants.{Word as WordNext, Call as Calls}
 use Rattle.tagged_sim.specs.declared.outcome.Stepped.TheVariants.{Going}
 use Rattle.tagged_sim.specs.declared.planned.Planned.{Planned}
 use Rattle.tagged_sim.specs.declared.planned.Planned.TheVariants.{Idle, Write, Save, Take, PutByte, PutNumber, Jump, Call as CallPlanned, Return, Report}
 use Rattle.tagged_sim.specs.declared.store.Store.{Store}
-use Rattle.tagged_sim.specs.Advance.{Standing, TakesResult, FirstTakes, advanced, given, given_back, standing}
+use Rattle.tagged_sim.specs.Advance.{TakesResult, FirstTakes, advanced, given, given_back, standing}
 use Rattle.tagged_sim.specs.Cycles.{Breaks, ComesOut, Does, finish, flow, flow_of, outcome_at}
 use Rattle.tagged_sim.specs.Effects.{turn_after}
 use Rattle.tagged_sim.specs.Frames.{IsEntered, call_of, waiting_of, times_of}
-use Rattle.tagged_sim.specs.Next.{IsNext, BeginsCall}
+use Rattle.tagged_sim.specs.Next.{IsNext}
 use Rattle.tagged_sim.specs.Planned.{effect_of}
 use Rattle.tagged_sim.specs.Simulation.{Simulation, Wide, BreaksOff, Cycles, going_at, sim_of, state_of, step_to}
-use Rattle.tagged_sim.specs.Site.{Site, room_at, site_of}
+use Rattle.tagged_sim.specs.Site.{Site, site_of}
 use Rattle.tagged_sim.specs.Store.{held, holds, with_held}
 use Rattle.tagged_sim.proofs.Places.{held_put}
 use Rattle.tagged_sim.proofs.Steps.{doing_step, timed, turned, waiting_step}

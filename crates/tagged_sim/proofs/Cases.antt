@@ -17,10 +17,9 @@ use Rattle.tagged_core.proofs.Kept.{func_kept}
 use Rattle.tagged_sim.specs.declared.frame.Frame.{Frame}
 use Rattle.tagged_sim.specs.declared.frame.Suspended.{Suspended}
 use Rattle.tagged_sim.specs.declared.next.Next.{Next}
-use Rattle.tagged_sim.specs.declared.outcome.Stepped.TheVariants.{Going}
 use Rattle.tagged_sim.specs.declared.planned.Planned.TheVariants.{Idle}
 use Rattle.tagged_sim.specs.declared.store.Store.{Store}
-use Rattle.tagged_sim.specs.Advance.{CanAdvance, Standing, advanced, standing}
+use Rattle.tagged_sim.specs.Advance.{CanAdvance, Standing, advanced}
 use Rattle.tagged_sim.specs.Cycles.{Breaks, Does, scope_at}
 use Rattle.tagged_sim.specs.EffectFits.{effect_fits}
 use Rattle.tagged_sim.specs.Effects.{turn_after}
@@ -114,6 +113,6 @@ module _ (latency : OpClass → ℕ) (limits : Limits) (code : RawCode) (call : 
           pub sound_case : length values.regs ≡ length call.values.regs → length values.slots ≡ length call.values.slots → length ready.regs ≡ length call.ready.regs → length ready.slots ≡ length call.ready.slots → (room_behind : ℕ) → room_behind ≡ room → IsSound limits code new.call new.callers room_behind
           sound_case v_regs v_slots r_regs r_slots room_behind same_room =
               let good = goes_well limits code sound.valid call sound.call_fits word.word ops word.at same_ops callers sound.callers_fit values ready v_regs v_slots r_regs r_slots places (cycle + 1) memory_behind (turn_after Idle does_here.plan) next does_here.goes fits_turn
-                  (turn_leaves limits code sound.valid call sound.call_fits word.word ops word.at same_ops here refl memory places does_here.plan does_here.planned) in
+              (turn_leaves limits code sound.valid call sound.call_fits word.word ops word.at same_ops here refl memory places does_here.plan does_here.planned) in
               let fit = subst (λ (n : Standing). CallsFit limits.regs code n.call n.callers) (sym new_is) good in
               record { valid = sound.valid; call_fits = fit.call_fits; callers_fit = fit.callers_fit; plan_room = subst (λ n. 64 ≤ n) (sym same_room) sound.plan_room }

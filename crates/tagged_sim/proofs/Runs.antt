@@ -1,10 +1,8 @@
 -- Cycles one after the other.
-use Rattle.std.proofs.Common.{◌≡◌, ℕ, ℤ, zero, suc, ◌+◌, ◌<◌, ◌≤◌, ◌⊎◌, inl, inr, Bool, true, false, List, [], ◌++◌, refl, sym, ap, ◌∙◌, subst, arith}
+use Rattle.std.proofs.Common.{◌≡◌, ℕ, zero, suc, ◌+◌, ◌<◌, ◌≤◌, ◌⊎◌, inl, inr, Bool, true, false, List, [], ◌++◌, refl, sym, ap, ◌∙◌, subst, arith}
 use Rattle.std.specs.Prelude.{Result, Ok, Err, IfOk, OnErr}
-use Rattle.ib_meaning.specs.Agreement.{Finish, Returned, Faulted, Meaning, More, Over, IsPrefix, out_of}
-use Rattle.ib_meaning.specs.declared.fault.FaultKind.{FaultKind}
-use Rattle.ib_meaning.specs.declared.place.Place.{Place}
-use Rattle.ib_meaning.specs.Machine.{Machine, Goes, Stops, means}
+use Rattle.ib_meaning.specs.Agreement.{Finish, Returned, Faulted, Meaning, More, IsPrefix, out_of}
+use Rattle.ib_meaning.specs.Machine.{Machine, Stops, means}
 use Rattle.ib_base.specs.World.{World}
 use Rattle.ib_run.specs.OverHost.{OverHost}
 use Rattle.ib_run.specs.Path.{Path, Start, Then, printed_of}
@@ -12,13 +10,13 @@ use Rattle.ib_run.proofs.OverHost.{over_join, over_none, over_weaken}
 use Rattle.ib_run.proofs.Paths.{path_more, path_over, path_begins}
 use Rattle.machine_desc.specs.declared.machine.OpClass.{OpClass}
 use Rattle.tagged_core.specs.declared.code.RawCode.{RawCode}
-use Rattle.tagged_core.specs.Meaning.{wide_step, wide_start, wide_meaning}
+use Rattle.tagged_core.specs.Meaning.{wide_step, wide_meaning}
 use Rattle.tagged_sim.specs.declared.outcome.SimErr.{SimErr}
 use Rattle.tagged_sim.specs.declared.outcome.SimOutcome.{SimOutcome}
 use Rattle.tagged_sim.specs.declared.outcome.SimOutcome.TheVariants.{Ended as EndedAfter, Reported as ReportedAfter, Spent}
 use Rattle.tagged_sim.specs.declared.outcome.Stepped.{Stepped}
 use Rattle.tagged_sim.specs.declared.outcome.Stepped.TheVariants.{Going, Ended, Reported}
-use Rattle.tagged_sim.specs.Simulation.{Simulation, Begins, BreaksOff, Cycles, EndsAfter, IsLoaded, Leads, Ran, RunBreaksOff, RunEnds, Simulates, is_over, meaning_from, outcome_by, state_of, step_to}
+use Rattle.tagged_sim.specs.Simulation.{Simulation, Begins, BreaksOff, Cycles, EndsAfter, IsLoaded, Leads, Ran, RunEnds, Simulates, is_over, meaning_from, outcome_by, state_of, step_to}
 
 -- ---- before its end a path's machine goes on
 

@@ -1,10 +1,8 @@
 -- What valid code gives a cycle, and that the simulator behind it is sound.
-use Rattle.std.proofs.Common.{◌≡◌, ℕ, zero, suc, ◌+◌, ◌<◌, ◌≤◌, ℤ, pos, Bool, true, false, ◌&&◌, ◌||◌, not, nat_le, nat_lt, List, [], ◌∷◌, length, drop, get_or, map, Option, Some, None, refl, sym, ap, ◌∙◌, subst, slice_get, arith, add-one}
+use Rattle.std.proofs.Common.{◌≡◌, ℕ, zero, suc, ◌+◌, ◌<◌, ◌≤◌, ℤ, Bool, true, false, ◌&&◌, ◌||◌, not, nat_le, nat_lt, List, [], ◌∷◌, length, drop, get_or, map, Option, Some, None, refl, sym, ap, ◌∙◌, subst, slice_get, arith}
 use Rattle.std.specs.List.{list_all, list_any}
 use Rattle.std.proofs.lemmas.Bool.Decides.{nat_tests}
 use Rattle.std.proofs.lemmas.List.{length-set}
-use Rattle.machine_desc.specs.declared.machine.OpClass.{OpClass}
-use Rattle.machine_desc.specs.Machine.{IsTable}
 use Rattle.tagged_core.specs.declared.code.Loc.{Loc}
 use Rattle.tagged_core.specs.declared.code.Loc.TheVariants.{Reg, Slot}
 use Rattle.tagged_core.specs.declared.code.RawCode.{RawCode}
@@ -16,30 +14,28 @@ use Rattle.tagged_core.specs.declared.code.Word.{Word}
 use Rattle.tagged_core.specs.Classes.{is_register}
 use Rattle.tagged_core.specs.Cycle.{touched, target_if}
 use Rattle.tagged_core.specs.Meaning.{func_of, first_ops}
-use Rattle.tagged_core.specs.Operation.{Around}
-use Rattle.tagged_core.specs.Parts.{words_of, frame_of, overflows}
-use Rattle.tagged_core.specs.Valid.{Limits, Scope, IsValid, always_leaves, calls_well, goes_within, has_good_sizes, has_units, is_last, is_within, scope_of, takes}
+use Rattle.tagged_core.specs.Parts.{words_of, frame_of}
+use Rattle.tagged_core.specs.Valid.{Limits, Scope, IsValid, calls_well, goes_within, is_last, is_within, scope_of, takes}
 use Rattle.tagged_core.specs.Word.{effects}
 use Rattle.tagged_core.proofs.Both.{both, both_first, both_second}
 use Rattle.tagged_core.proofs.Kept.{FuncKept, WordKept, func_kept, op_kept}
 use Rattle.tagged_sim.specs.declared.frame.Frame.{Frame}
 use Rattle.tagged_sim.specs.declared.frame.Suspended.{Suspended}
 use Rattle.tagged_sim.specs.declared.next.Next.{Next}
-use Rattle.tagged_sim.specs.declared.next.Next.TheVariants.{Word as WordNext, Call as Calls, Return as Returns, Report as Reports}
+use Rattle.tagged_sim.specs.declared.next.Next.TheVariants.{Word as WordNext, Call as Calls}
 use Rattle.tagged_sim.specs.declared.planned.Planned.{Planned}
 use Rattle.tagged_sim.specs.declared.planned.Planned.TheVariants.{Idle, Write, Save, Take, PutByte, PutNumber, Jump, Call as CallPlanned, Return, Report}
 use Rattle.tagged_sim.specs.declared.store.Store.{Store}
-use Rattle.tagged_sim.specs.Advance.{CanAdvance, FirstTakes, TakesResult, advanced, given, given_back, suspended}
-use Rattle.tagged_sim.specs.Cycles.{Does, scope_at}
+use Rattle.tagged_sim.specs.Advance.{CanAdvance, FirstTakes, advanced, given, given_back}
+use Rattle.tagged_sim.specs.Cycles.{scope_at}
 use Rattle.tagged_sim.specs.EffectFits.{effect_fits}
 use Rattle.tagged_sim.specs.Effects.{turn_after}
 use Rattle.tagged_sim.specs.Fits.{op_fits}
-use Rattle.tagged_sim.specs.Frames.{AllFit, FrameFits, IsEntered, SuspendedFits, ops_at}
+use Rattle.tagged_sim.specs.Frames.{AllFit, FrameFits, ops_at}
 use Rattle.tagged_sim.specs.Next.{IsNext, BeginsCall}
 use Rattle.tagged_sim.specs.Planned.{effect_of}
-use Rattle.tagged_sim.specs.Simulation.{IsSound}
 use Rattle.tagged_sim.specs.Site.{Site, around, room_at, site_of}
-use Rattle.tagged_sim.specs.Store.{held, with_held}
+use Rattle.tagged_sim.specs.Store.{with_held}
 use Rattle.tagged_sim.proofs.Does.{plan_fits}
 use Rattle.tagged_sim.proofs.Fits.{effects_fit, effects_leave, is_leaving}
 use Rattle.tagged_sim.proofs.Turns.{turn_of_all, turn_goes}

@@ -1,5 +1,5 @@
 -- The simulator at the start of `main`.
-use Rattle.std.proofs.Common.{◌≡◌, ℕ, zero, suc, Option, IfSome, ◌+◌, ◌*◌, ◌/◌, ◌<◌, ◌≤◌, pos, Bool, true, false, ◌&&◌, ◌||◌, nat_le, get_or, List, [], ◌∷◌, length, drop, Some, refl, sym, ap, ◌∙◌, subst, slice_get, arith}
+use Rattle.std.proofs.Common.{◌≡◌, ℕ, zero, suc, Option, IfSome, ◌+◌, ◌<◌, ◌≤◌, pos, Bool, true, false, ◌&&◌, ◌||◌, nat_le, get_or, List, [], ◌∷◌, length, drop, Some, refl, sym, ap, ◌∙◌, subst, slice_get, arith}
 use Rattle.std.specs.Prelude.{if◌then◌else◌, slice_index_or}
 use Rattle.std.specs.List.{list_any}
 use Rattle.ib_mem.specs.Memory.{cleared}
@@ -14,11 +14,11 @@ use Rattle.tagged_core.specs.declared.code.Word.{Word}
 use Rattle.tagged_core.specs.Cycle.{Times}
 use Rattle.tagged_core.specs.Meaning.{func_of, put_all, word_start, wide_start}
 use Rattle.tagged_core.specs.Parts.{first_base, first_memory, frame_of, is_main, number_of_main, params_of, words_of}
-use Rattle.tagged_core.specs.Valid.{Limits, IsValid, has_good_sizes, is_empty, is_entry}
+use Rattle.tagged_core.specs.Valid.{Limits, IsValid, is_empty, is_entry}
 use Rattle.tagged_core.proofs.Both.{both_first, both_second}
 use Rattle.tagged_core.proofs.Kept.{func_kept, image_kept, entry_kept}
 use Rattle.tagged_sim.specs.declared.frame.Frame.{Frame}
-use Rattle.tagged_sim.specs.Frames.{FrameFits, IsEntered}
+use Rattle.tagged_sim.specs.Frames.{IsEntered}
 use Rattle.tagged_sim.specs.Simulation.{Simulation, Wide, IsLoaded, IsSound, going_at, state_of}
 use Rattle.tagged_sim.specs.Store.{held}
 use Rattle.tagged_sim.proofs.Sound.{at_most, below_of_some, item_of_some}

@@ -1,5 +1,5 @@
 -- Calls of the simulator, and the calls of the machine that they stand for.
-use Rattle.std.specs.Prelude.{◌≡◌, ℕ, ℤ, ◌+◌, ◌<◌, ◌≤◌, pos, true, List, [], ◌∷◌, length, drop, map, Some}
+use Rattle.std.specs.Prelude.{◌≡◌, ℕ, ℤ, ◌+◌, ◌<◌, ◌≤◌, pos, true, List, [], ◌∷◌, length, drop, Some}
 use Rattle.std.specs.List.{list_all}
 use Rattle.tagged_core.specs.declared.code.Tagged.TheVariants.{Clear}
 use Rattle.tagged_core.specs.declared.code.WideFunc.{WideFunc}

@@ -1,5 +1,5 @@
 -- A simulator, the state of the machine that it stands for, and what its cycles and runs show.
-use Rattle.std.specs.Prelude.{◌≡◌, ℕ, ◌+◌, ◌<◌, ◌≤◌, Bool, true, false, List, length, map}
+use Rattle.std.specs.Prelude.{◌≡◌, ℕ, ◌+◌, ◌<◌, ◌≤◌, Bool, true, false, List, map}
 use Rattle.ib_meaning.specs.Agreement.{Meaning, Finish, Returned, Faulted, More, Over, IsPrefix, out_of}
 use Rattle.ib_meaning.specs.Machine.{Step, Goes, Stops, means}
 use Rattle.ib_base.specs.World.{World}

@@ -57,13 +57,7 @@ fn clear_frame(code: &RawCode, memory: &mut Memory, frame: &Frame)
 }
 
 /// Begins a call, for which the one at hand waits.
-fn enter(
-    call: &mut Frame,
-    callers: &mut Callers,
-    frame: Frame,
-    next: usize,
-    to: Option<Loc>,
-)
+fn enter(call: &mut Frame, callers: &mut Callers, frame: Frame, next: usize, to: Option<Loc>)
     requires { length callers.old < 4096 }
     ensures call { call.new ≡ frame }
     ensures callers { callers.new ≡ suspended call.old next to ∷ callers.old }

@@ -100,5 +100,10 @@ fn site_at<'a>(code: &'a RawCode, call: &Frame, callers: &Callers) -> Site<'a>
     requires { (regs : ℕ) × FrameFits regs code.now call.now }
     ensures { result ≡ site_of code.now call.now callers.now }
 {
-    Site::new(code.funcs.as_slice(), call.base, next_base(code, call), callers.len())
+    Site::new(
+        code.funcs.as_slice(),
+        call.base,
+        next_base(code, call),
+        callers.len(),
+    )
 }

@@ -1,4 +1,4 @@
-use Rattle.std.proofs.Common.{refl, ap, ◌∙◌, map, pos}
+use Rattle.std.proofs.Common.{ap, ◌∙◌, map, pos}
 use Rattle.tagged_core.specs.declared.code.Loc.TheVariants.{Reg}
 use Rattle.tagged_core.specs.declared.code.Tagged.TheVariants.{Clear}
 use Rattle.tagged_core.specs.Meaning.{put_all}

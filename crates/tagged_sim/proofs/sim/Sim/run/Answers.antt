@@ -1,4 +1,4 @@
-use Rattle.std.proofs.Common.{◌∙◌, refl, rules, sym, arith}
+use Rattle.std.proofs.Common.{◌∙◌, refl, arith}
 use Rattle.tagged_sim.proofs.Runs.{begins_so, goes_on, leads_more, leads_none, ran_over, stops_here}
 use Rattle.tagged_sim.proofs.sim.Sim.run.Goals as goal
 

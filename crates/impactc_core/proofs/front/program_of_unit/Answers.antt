@@ -4,6 +4,6 @@ use Rattle.impactc_core.proofs.Fronts.{refuses_form}
 use Rattle.impactc_core.proofs.front.program_of_unit.Goals as goal
 
 pub returns-in-Err-NotFirstForm-clause-refused : goal.returns-in-Err-NotFirstForm-clause-refused
-returns-in-Err-NotFirstForm-clause-refused g c =
+returns-in-Err-NotFirstForm-clause-refused c =
     let is : c.read.result ≡ Err NotFirstForm = cc in
     refuses_form c.args.file c.args.bytes.now c.args.tokens.now c.requires (c.read.ensures.refused is)

@@ -141,7 +141,7 @@ module _ (Budgets : (d b b' : ℕ) → Type 0) (Reports : (out : List ℕ) → R
       let xy = lower_exits le same in
       body.by e le _ _ (record { next = again e below; on_break = xy.next; on_continue = again e below; on_return = xy.on_return }))
 
-  loop_alike : (n n' c : ℕ) → Levels c n n' → (test test' last last' : Doing ℤ) (m l : Exits → Step) → Alike c test test' → Alike c last last' → Runs c m l → (x y : Exits) → SameExits c x y → Steps c (loop n test last m x) (loop n' test' last' l y)
+  pub loop_alike : (n n' c : ℕ) → Levels c n n' → (test test' last last' : Doing ℤ) (m l : Exits → Step) → Alike c test test' → Alike c last last' → Runs c m l → (x y : Exits) → SameExits c x y → Steps c (loop n test last m x) (loop n' test' last' l y)
   loop_alike zero zero c at test test' last last' m l et el eb x y same = λ s b g. closed.more s.out s.left
   loop_alike zero (suc n') c at test test' last last' m l et el eb x y same = absurd (closed.never_left c n' at)
   loop_alike (suc n) zero c at test test' last last' m l et el eb x y same = absurd (closed.never_right c n at)
@@ -186,7 +186,7 @@ module _ (Budgets : (d b b' : ℕ) → Type 0) (Reports : (out : List ℕ) → R
       evals_alike t.no_exp at = give []
       evals_alike (t.an_exp a rest) at = bind (eval_alike a at) (λ v. bind (evals_alike rest at) (λ vs. give (v ∷ vs)))
 
-    part_alike : (v : ℤ) (e : Maybe) (at : Place) → Alike c (part p call n v e at) (part p call' n' v e at)
+    pub part_alike : (v : ℤ) (e : Maybe) (at : Place) → Alike c (part p call n v e at) (part p call' n' v e at)
     part_alike v t.missing at = give v
     part_alike v (t.given a) at = eval_alike a at
 
@@ -210,7 +210,7 @@ module _ (Budgets : (d b b' : ℕ) → Type 0) (Reports : (out : List ℕ) → R
         looped et (give _) eb e far x y (lower_exits down same)) x y same
 
     mutual
-      exec_alike : (a : Stm) → Runs c (exec p call n a) (exec p call' n' a)
+      pub exec_alike : (a : Stm) → Runs c (exec p call n a) (exec p call' n' a)
       exec_alike (t.block all) = execs_alike all
       exec_alike (t.empty s) = record { by = λ d le x y same. same.next }
       exec_alike (t.expression s a) = record { by = λ d le x y same. followed (eval_alike a (place_of p s)) d le _ _ same.next }
@@ -231,7 +231,7 @@ module _ (Budgets : (d b b' : ℕ) → Type 0) (Reports : (out : List ℕ) → R
             (exec_alike a).by d le _ _ (record { next = (execs_alike rest).by d le x y same; on_break = same.on_break; on_continue = same.on_continue; on_return = same.on_return });
       }
 
-  enter_alike : (d : ℕ) (run run' : Function → Exits → Step) → ((f : Function) → Runs d (run f) (run' f)) → (at : Place) (o : Option Function) (vs : List ℤ) → Alike d (enter run at o vs) (enter run' at o vs)
+  pub enter_alike : (d : ℕ) (run run' : Function → Exits → Step) → ((f : Function) → Runs d (run f) (run' f)) → (at : Place) (o : Option Function) (vs : List ℤ) → Alike d (enter run at o vs) (enter run' at o vs)
   enter_alike d run run' body at None vs = record { by = λ e le k h same s b g. closed.more s.out s.left }
   enter_alike d run run' body at (Some f) vs = record { by = λ e le k h same s b g. go e le k h same s b g (overflows f s) }
     where

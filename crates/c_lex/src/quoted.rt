@@ -135,7 +135,7 @@ pub fn character(alloc: Global, bytes: &[u8]) -> Result<Found, AllocError>
     let Some((values, len)) = found else {
         return Ok(nothing(bytes));
     };
-    match values.as_bytes() {
+    match values.list() {
         [value] => Ok(Found::Token(Tok::Char(*value), len + 1)),
         _ => Ok(nothing(bytes)),
     }

@@ -23,7 +23,7 @@ fn push_token(out: &mut String, alloc: Global, tok: &Tok) -> Result<(), AllocErr
     match tok {
         Tok::Name(text) => {
             out.push('n')?;
-            push_bytes(out, text.as_bytes())
+            push_bytes(out, text.list())
         }
         Tok::Number { value, long } => {
             let value = *value;
@@ -38,7 +38,7 @@ fn push_token(out: &mut String, alloc: Global, tok: &Tok) -> Result<(), AllocErr
         }
         Tok::Str(text) => {
             out.push('s')?;
-            push_bytes(out, text.as_bytes())
+            push_bytes(out, text.list())
         }
         Tok::Word(keyword) => {
             out.push('k')?;
@@ -50,7 +50,7 @@ fn push_token(out: &mut String, alloc: Global, tok: &Tok) -> Result<(), AllocErr
         }
         Tok::Reserved(text) => {
             out.push('r')?;
-            push_bytes(out, text.as_bytes())
+            push_bytes(out, text.list())
         }
     }
 }

@@ -1,10 +1,9 @@
 -- What the machine answers, in the words of the grammar.
 use Rattle.std.proofs.Common.{◌≡◌, ℕ, ◌+◌, ◌<◌, List, [], ◌∷◌, ◌++◌, Ok, Err, refl, sym, ◌∙◌, ap, arith, subst, length, append_assoc, take, length-append}
 use Rattle.c_ast.specs.declared.token.Token.{Token}
-use Rattle.c_ast.specs.Trees.{Top}
 use Rattle.c_ast.specs.Grammar.{IsUnit, BeginsUnit}
 use Rattle.c_parse.specs.Machine.{items, run}
-use Rattle.c_parse.specs.Parses.{IsOnlyUnit, IsWrongAt}
+use Rattle.c_parse.specs.Parses.{HaveOneTree, IsWrongAt}
 use Rattle.c_parse.proofs.StatementLemmas.{complete}
 use Rattle.c_parse.proofs.SoundStates.{sound}
 use Rattle.c_parse.proofs.Viable.{stuck, Stuck}
@@ -14,11 +13,8 @@ take_front [] ys = refl
 take_front (x ∷ xs) ys = ap (λ l. x ∷ l) (take_front xs ys)
 
 -- a token list has at most one tree
-pub one_tree : (ts : List Token) (xs ys : List Top) → IsUnit ts xs → IsUnit ts ys → xs ≡ ys
+pub one_tree : (ts : List Token) → HaveOneTree ts
 one_tree ts xs ys p q = let e : Ok xs ≡ Ok ys = sym (complete ts xs p) ∙ complete ts ys q in cc
-
-pub only_unit : (ts : List Token) (xs : List Top) → run ts (items []) ≡ Ok xs → IsOnlyUnit ts xs
-only_unit ts xs h = record { is_unit = sound ts xs h; only = λ ys p. one_tree ts ys xs p (sound ts xs h) }
 
 wrong : (ts : List Token) (i n : ℕ) → i + n ≡ length ts → run ts (items []) ≡ Err n → Stuck ts (items []) n → IsWrongAt ts i
 wrong ts i n size h k =

@@ -4,7 +4,6 @@ use Rattle.std.specs.Prelude.{Result, IfOk, IfErr}
 use Rattle.std.proofs.lemmas.List.{at_drop_more, at_drop_all, length-drop}
 use Rattle.c_ast.specs.declared.token.Token.{Token}
 use Rattle.c_ast.specs.declared.tree_unit.Unit as code
-use Rattle.c_ast.specs.Trees.{Top}
 use Rattle.c_ast.specs.TreeViews.{unit_of}
 use Rattle.c_ast.specs.Grammar.{IsUnit}
 use Rattle.c_ast.specs.Nesting as N
@@ -15,7 +14,8 @@ use Rattle.c_parse.specs.Parses.{Refuses}
 use Rattle.c_parse.specs.Ran.{Ran}
 use Rattle.c_parse.proofs.Complete.{takes}
 use Rattle.c_parse.proofs.Viable.{refuses}
-use Rattle.c_parse.proofs.Answered.{only_unit, wrong_at}
+use Rattle.c_parse.proofs.SoundStates.{sound}
+use Rattle.c_parse.proofs.Answered.{wrong_at}
 
 one_token : (ts : List Token) (i : ℕ) (tok : Token) (s : M.State) → i < length ts → tok ≡ get_or ts i tok →
     M.run (drop i ts) s ≡ M.run (tok ∷ drop (i + 1) ts) s
@@ -39,12 +39,8 @@ pub unfinished : (ts : List Token) (i : ℕ) (s : M.State) → M.run ts (M.items
 unfinished ts i s so le h = (0, omega arith, so ∙ at_drop_all (λ l. M.run l s) ts i le ∙ ap M.ended h)
 
 pub tree_is : (ts : List Token) (r : Result code.Unit ParseErr) → Ran ts r → IfOk r (λ unit. IsUnit ts (unit_of unit))
-tree_is ts (Ok unit) h = (only_unit ts (unit_of unit) h).is_unit
+tree_is ts (Ok unit) h = sound ts (unit_of unit) h
 tree_is ts (Err e) h = search rules
-
-pub tree_only : (ts : List Token) (r : Result code.Unit ParseErr) → Ran ts r → IfOk r (λ unit. (other : List Top) → IsUnit ts other → other ≡ unit_of unit)
-tree_only ts (Ok unit) h = (only_unit ts (unit_of unit) h).only
-tree_only ts (Err e) h = search rules
 
 pub kept : (ts : List Token) (r : Result code.Unit ParseErr) → N.too_deep ts ≡ None → IfOk r (λ unit. N.too_deep ts ≡ None)
 kept ts (Ok unit) h = h

@@ -7,10 +7,9 @@ use Rattle.c_ast.specs.Nesting.{too_deep}
 use Rattle.c_parse.specs.declared.parser.ParseErr.{ParseErr}
 use Rattle.c_parse.specs.declared.parser.ParseErr.TheVariants.{TooDeep, Syntax, NoMemory}
 
--- The tokens are the unit, and no other.
-pub record IsOnlyUnit (tokens : List Token) (unit : List Top) : Type 0 where
-  pub is_unit : IsUnit tokens unit
-  pub only : (other : List Top) → IsUnit tokens other → other ≡ unit
+-- the tokens have at most one tree
+abbrev pub HaveOneTree : List Token → Type 0
+HaveOneTree tokens = (one other : List Top) → IsUnit tokens one → IsUnit tokens other → one ≡ other
 
 -- The tokens are no unit. The first n of them begin one, and they are all, or one more begins none.
 pub record IsWrongAt (tokens : List Token) (n : ℕ) : Type 0 where

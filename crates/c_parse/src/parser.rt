@@ -1,13 +1,12 @@
 //! The parser takes one token at a time, and needs no recursion: what is begun lies on stacks.
 
-ghost use Rattle.std.specs.Prelude.{◌≡◌, List, IfOk, IfErr, None};
-ghost use Rattle.c_ast.specs.Trees.{Top};
+ghost use Rattle.std.specs.Prelude.{◌≡◌, IfOk, IfErr, None};
 ghost use Rattle.c_ast.specs.TreeViews.{type_of, stmt_of, unit_of};
 ghost use Rattle.c_ast.specs.Grammar.{IsUnit};
 ghost use Rattle.c_ast.specs.Nesting as N;
 ghost use Rattle.c_parse.specs.Machine as M;
 ghost use Rattle.c_parse.specs.Views.{state_of, head_of, outer_of, sizing_of, IsNext};
-ghost use Rattle.c_parse.specs.Parses.{Refuses};
+ghost use Rattle.c_parse.specs.Parses.{HaveOneTree, Refuses};
 ghost use Rattle.c_parse.specs.Ran.{Ran, IsFinished};
 
 use crate::declarations::{
@@ -139,9 +138,10 @@ fn run(alloc: Global, tokens: &[Token]) -> Result<Unit, ParseErr>
 }
 
 /// The unit of the tokens, in time that is linear in their number. `TooDeep` comes before `Syntax`.
+#[tactic(auto, using(crate::proofs::Answered::one_tree))]
 pub fn parse(alloc: Global, tokens: &[Token]) -> Result<Unit, ParseErr>
     ensures ok { IfOk result (λ unit. IsUnit tokens.now (unit_of unit)) }
-    ensures only { IfOk result (λ unit. (other : List Top) → IsUnit tokens.now other → other ≡ unit_of unit) }
+    ensures only { HaveOneTree tokens.now }
     ensures kept { IfOk result (λ unit. N.too_deep tokens.now ≡ None) }
     ensures refuses { IfErr result (λ e. Refuses tokens.now e) }
 {

@@ -117,7 +117,7 @@ fn kind_of<'a>(source: &[u8], token: &'a Token) -> Kind<'a>
     match &token.kind {
         Tok::Word(keyword) => keyword_kind(*keyword),
         Tok::Mark(mark) => mark_kind(*mark),
-        Tok::Name(name) => name_kind(name.as_bytes()),
+        Tok::Name(name) => name_kind(name.list()),
         Tok::Number { value, long } => {
             number_kind(is_decimal(source, token.span), *value, *long)
         }

@@ -41,7 +41,7 @@ impl FileTable {
     {
         for (written, content) in &self.writes {
             if written.is(name) {
-                return Some(content.as_bytes());
+                return Some(content.list());
             }
         }
         None

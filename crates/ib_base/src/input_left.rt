@@ -30,14 +30,14 @@ impl InputLeft {
     pub(crate) fn as_bytes(&self) -> &[u8]
         ensures { result.now ≡ self.now }
     {
-        self.bytes.as_bytes().get(self.taken..).unwrap_or(&[])
+        self.bytes.list().get(self.taken..).unwrap_or(&[])
     }
 
     /// Takes the first byte that is left.
     pub(crate) fn take(&mut self) -> Option<u8>
         ensures { MatchOption result ((self.old ≡ []) × (self.new ≡ [])) (λ first. self.old ≡ first ∷ self.new) }
     {
-        match self.bytes.as_bytes().get(self.taken) {
+        match self.bytes.list().get(self.taken) {
             None => None,
             Some(first) => {
                 let first = *first;

@@ -80,13 +80,13 @@ impl MemHost {
     pub fn output(&self) -> &[u8]
         ensures { result.now ≡ output_of self.now }
     {
-        self.output.as_bytes()
+        self.output.list()
     }
 
     pub fn notes(&self) -> &[u8]
         ensures { result.now ≡ notes_of self.now }
     {
-        self.notes.as_bytes()
+        self.notes.list()
     }
 
     /// How many calls failed, up to the last value of the type.

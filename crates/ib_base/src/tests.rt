@@ -61,7 +61,9 @@ fn text_compares_by_its_bytes(rt: HostRuntime) -> Result<(), AllocError> {
     text.push_bytes(b"c")?;
     assert!(rt; text.is(b"abc"));
     assert!(rt; !text.equals(&before));
-    assert_eq!(rt; before.as_bytes(), b"ab".as_slice());
+    assert_eq!(rt; before.list(), b"ab".as_slice());
+    let kept = Text::keep(vec![in rt.alloc(); 97u8; 2]?);
+    assert_eq!(rt; kept.list(), b"aa".as_slice());
     Ok(())
 }
 

@@ -21,42 +21,48 @@ impl Text {
     pub fn new(alloc: Global) -> Text
         ensures { result ≡ [] }
     {
-        Text {
-            bytes: Vec::new(alloc),
-        }
+        Text::keep(Vec::new(alloc))
     }
 
-    pub fn from_bytes(alloc: Global, bytes: &[u8]) -> Result<Text, AllocError>
-        ensures { IfOk result (λ text. text ≡ bytes.now) }
+    /// The text of these bytes, which become its own.
+    pub fn keep(list: Vec<u8>) -> Text
+        ensures { result ≡ list.items }
     {
-        let bytes = Vec::from_slice(alloc, bytes)?;
-        Ok(Text { bytes })
+        Text { bytes: list }
     }
 
-    pub fn as_bytes(&self) -> &[u8]
+    /// The bytes in order.
+    pub fn list(&self) -> &[u8]
         ensures { result.now ≡ self.now }
     {
         self.bytes.as_slice()
     }
 
+    /// A text with a copy of these bytes.
+    pub fn from_bytes(alloc: Global, bytes: &[u8]) -> Result<Text, AllocError>
+        ensures { IfOk result (λ text. text ≡ bytes.now) }
+    {
+        Ok(Text::keep(Vec::from_slice(alloc, bytes)?))
+    }
+
     pub fn copy(&self, alloc: Global) -> Result<Text, AllocError>
         ensures { IfOk result (λ text. text ≡ self.now) }
     {
-        Text::from_bytes(alloc, self.as_bytes())
+        Text::from_bytes(alloc, self.list())
     }
 
     /// Whether the text is made of these bytes.
     pub fn is(&self, bytes: &[u8]) -> bool
         ensures { IsTrue result ↔ (self.now ≡ bytes.now) }
     {
-        self.as_bytes() == bytes
+        self.list() == bytes
     }
 
     /// Whether two texts have the same bytes.
     pub fn equals(&self, other: &Text) -> bool
         ensures { IsTrue result ↔ (self.now ≡ other.now) }
     {
-        self.is(other.as_bytes())
+        self.is(other.list())
     }
 
     /// Appends bytes.

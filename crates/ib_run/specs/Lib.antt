@@ -1,2 +1,3 @@
 pub mod OverHost
 pub mod Path
+pub mod Report

@@ -18,7 +18,8 @@ use Rattle.tac_core.specs.Meaning.{State, tac_step, tac_meaning}
 use Rattle.profile.specs.declared.progress.Progress.{Progress}
 use Rattle.profile.specs.declared.progress.Progress.TheVariants.{Going, Done, Broken}
 use Rattle.profile.specs.Counting.{start_of, AreCounted}
-use Rattle.profile.specs.Running.{Steps, StepsPart, Begins, Runs, report_of}
+use Rattle.profile.specs.Running.{Steps, StepsPart, Begins, Runs}
+use Rattle.ib_run.specs.Report.{report_of}
 use Rattle.profile.specs.Tallies.{IsTallied, AreTallies, tallied, taken_of}
 use Rattle.profile.specs.Walking.{Walked, Reported}
 use Rattle.std.specs.Prelude.{length, map, Result}

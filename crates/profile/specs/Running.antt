@@ -1,24 +1,18 @@
 -- How a run of a three-address program over a host comes out, and its steps.
 use Rattle.std.specs.Prelude.{◌≡◌, ℕ, ℤ, pos, negsuc, List, [], ◌∷◌, Option, Some, None}
 use Rattle.ib_base.specs.declared.outcome.Outcome.{Outcome}
-use Rattle.ib_base.specs.declared.outcome.Outcome.TheVariants.{Ended, Faulted as FaultedAt, Spent}
 use Rattle.ib_meaning.specs.declared.fault.FaultKind.{FaultKind}
 use Rattle.ib_meaning.specs.declared.fault.FaultKind.TheVariants.{BadAddress}
-use Rattle.ib_meaning.specs.Agreement.{Report, More, Over, Finish, Returned, Faulted, IsPrefix, out_of}
+use Rattle.ib_meaning.specs.Agreement.{Finish, Returned, Faulted, IsPrefix, out_of}
 use Rattle.ib_meaning.specs.Machine.{Step, Goes, Stops}
 use Rattle.ib_run.specs.Path.{printed_of}
+use Rattle.ib_run.specs.Report.{report_of}
 use Rattle.tac_core.specs.declared.counts.FuncCounts.{FuncCounts}
 use Rattle.tac_core.specs.Program.{Program}
 use Rattle.tac_core.specs.Meaning.{State, Effect, Does, Fails, tac_step, tac_meaning}
 use Rattle.profile.specs.declared.progress.Progress.{Progress}
 use Rattle.profile.specs.declared.progress.Progress.TheVariants.{Going, Done, Broken}
 use Rattle.profile.specs.Counting.{AreCounted}
-
--- what an outcome says of a run, with what was printed and the input that is left
-abbrev pub report_of : Outcome → (out left : List ℕ) → Report
-report_of (Ended result) out left = Over (Returned result) out left
-report_of (FaultedAt place kind) out left = Over (Faulted place kind) out left
-report_of Spent out left = More out left
 
 -- the meaning with the budget, and the counts of that run
 pub record Runs (p : Program) (budget : ℕ) (outcome : Outcome) (counts : List FuncCounts) (input left out : List ℕ) : Type 0 where

@@ -6,7 +6,7 @@ use Rattle.tac_core.specs.declared.counts.FuncCounts.{FuncCounts}
 use Rattle.tac_core.specs.Program.{Program}
 use Rattle.tac_core.specs.Meaning.{State, tac_step, tac_meaning}
 use Rattle.profile.specs.Counting.{start_of}
-use Rattle.profile.specs.Running.{report_of}
+use Rattle.ib_run.specs.Report.{report_of}
 use Rattle.profile.specs.Tallies.{IsTallied}
 
 -- the run came so far, and the table has its counts

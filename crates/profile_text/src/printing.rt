@@ -32,7 +32,7 @@ fn print_func_line(text: &mut Vec<u8>, func: &TacFunc, entries: u64) -> Result<(
 {
     let blocks = func.blocks.len();
     text.extend_from_slice(b"func ")?;
-    text.extend_from_slice(func.name.as_bytes())?;
+    text.extend_from_slice(func.name.list())?;
     print_field(text, blocks as u64)?;
     print_field(text, entries)?;
     text.extend_from_slice(b"\n")

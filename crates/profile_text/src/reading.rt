@@ -81,7 +81,7 @@ fn is_func(func: &TacFunc, name: &Name, blocks: &Number) -> bool
     ensures blocks { length func.now.blocks < 2 ^ 64 }
 {
     let count = func.blocks.len();
-    name.bytes() == func.name.as_bytes() && blocks.is(count)
+    name.bytes() == func.name.list() && blocks.is(count)
 }
 
 /// The function's line at the front: its entries, and what stands behind it.

@@ -91,7 +91,7 @@ fn has_good_blocks(places: usize, funcs: &[TacFunc], func: &TacFunc) -> bool
 fn is_good_func(places: usize, funcs: &[TacFunc], func: &TacFunc) -> bool
     ensures { IsTrue result ↔ IsGoodFunc places funcs.now func.now }
 {
-    is_name(func.name.as_bytes())
+    is_name(func.name.list())
         && has_good_params(func)
         && func.frame <= MOST_FRAME
         && func.frame % 16 == 0
@@ -124,7 +124,7 @@ fn names_differ(funcs: &[TacFunc]) -> bool
 pub fn is_named_main(func: &TacFunc) -> bool
     ensures { result ≡ bytes_eq main_name func.now.name }
 {
-    "main".as_bytes() == func.name.as_bytes()
+    "main".as_bytes() == func.name.list()
 }
 
 fn is_main(func: &TacFunc) -> bool

@@ -87,11 +87,11 @@ fn broken_head<'a, M: Machine>(
 {
     let params = func.params.as_slice();
     let are_apart = differ(alloc, params)?;
-    let is_new = names.add(func.name.as_bytes())?;
+    let is_new = names.add(func.name.list())?;
     let rules = [
         Rule::new(1, are_within(M::REGS, func.slots, params)),
         Rule::new(3, are_apart),
-        Rule::new(8, is_name(func.name.as_bytes()) && is_new),
+        Rule::new(8, is_name(func.name.list()) && is_new),
         Rule::new(9, has_good_sizes(func)),
     ];
     Ok(first_broken(line, &rules))

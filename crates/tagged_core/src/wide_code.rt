@@ -148,7 +148,7 @@ fn notes_line(code: &RawCode) -> u32
 fn is_entry(func: &WideFunc) -> bool
     ensures { result ≡ is_entry func.now }
 {
-    func.name.as_bytes() == b"main".as_slice() && func.params.is_empty()
+    func.name.list() == b"main".as_slice() && func.params.is_empty()
 }
 
 fn has_entry(funcs: &[WideFunc]) -> bool

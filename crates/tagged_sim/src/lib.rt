@@ -17,6 +17,8 @@ mod sim;
 mod site;
 mod start;
 mod store;
+#[cfg(test)]
+mod tests;
 mod tick;
 mod times;
 mod word;

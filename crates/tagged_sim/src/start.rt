@@ -43,5 +43,5 @@ pub(crate) fn number_of_main(funcs: &[WideFunc]) -> usize
 fn is_main(func: &WideFunc) -> bool
     ensures { result ≡ is_main func.now }
 {
-    func.name.as_bytes() == b"main".as_slice()
+    func.name.list() == b"main".as_slice()
 }

@@ -1,13 +1,10 @@
 use Rattle.std.proofs.Common.{◌≡◌, None}
 use Rattle.c_ast.specs.Nesting as N
-use Rattle.c_parse.proofs.RunLemmas.{tree_is, tree_only, says_why}
+use Rattle.c_parse.proofs.RunLemmas.{tree_is, says_why}
 use Rattle.c_parse.proofs.parser.parse.Goals as goal
 
 pub returns-in-Ok-None-clause-ok : goal.returns-in-Ok-None-clause-ok
 returns-in-Ok-None-clause-ok c = tree_is c.args.tokens.now c.run.result c.run.ensures
-
-pub returns-in-Ok-None-clause-only : goal.returns-in-Ok-None-clause-only
-returns-in-Ok-None-clause-only c = tree_only c.args.tokens.now c.run.result c.run.ensures
 
 pub returns-in-Ok-None-clause-refuses : goal.returns-in-Ok-None-clause-refuses
 returns-in-Ok-None-clause-refuses c =

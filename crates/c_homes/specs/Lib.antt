@@ -1,0 +1,4 @@
+pub mod Addressed
+pub mod Declarators
+pub mod Homes
+pub mod Walking

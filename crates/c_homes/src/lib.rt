@@ -1,0 +1,14 @@
+//! Where the variables of a function live.
+#![tactic(auto)]
+
+mod addressed;
+mod declared;
+mod expressions;
+mod homes;
+mod marks;
+mod statements;
+#[cfg(test)]
+mod tests;
+
+pub use declared::{param_type, shape_of, written};
+pub use homes::{FunctionHomes, Given, function_homes};

@@ -1,0 +1,11 @@
+pub mod Advances
+pub mod Asking
+pub mod Extends
+pub mod Keeping
+pub mod Lightening
+pub mod Mains
+pub mod Rows
+pub mod Runs
+pub mod Settling
+pub mod Spending
+pub mod Widths

@@ -1,0 +1,17 @@
+//! Typed programs run as they stand.
+#![tactic(auto)]
+
+mod arguments;
+mod calls;
+mod evaluation;
+mod frame;
+mod giving;
+mod interpreting;
+mod machine;
+mod running;
+mod source;
+mod statements;
+mod values;
+
+pub use interpreting::interpret;
+pub use source::Source;

@@ -1,5 +1,5 @@
 -- The words of statements show what the statements do.
-use Rattle.std.proofs.Common.{◌≡◌, ◌≢◌, ℕ, suc, ◌+◌, ◌<◌, ◌≤◌, ℤ, pos, Bool, true, false, List, [], ◌∷◌, ◌++◌, length, Some, None, refl, sym, ap, subst, arith, cond}
+use Rattle.std.proofs.Common.{◌≡◌, ◌≢◌, ℕ, suc, ◌+◌, ◌<◌, ◌≤◌, ℤ, pos, Bool, true, false, List, [], ◌∷◌, ◌++◌, length, Some, None, refl, sym, ap, ◌∙◌, subst, arith, cond}
 use Rattle.std.specs.Prelude.{◌==◌}
 use Rattle.std.specs.Int.{w32}
 use Rattle.std.specs.Fmt.{signed_decimal}
@@ -14,9 +14,11 @@ use Rattle.wide_core.specs.declared.code.RawCode.{RawCode}
 use Rattle.wide_core.specs.declared.code.Tagged.{Tagged}
 use Rattle.wide_core.specs.declared.code.Tagged.TheVariants.{Clear}
 use Rattle.wide_core.specs.declared.code.WideAct.{WideAct}
-use Rattle.wide_core.specs.declared.code.WideAct.TheVariants.{PutNumber, Spill, Return}
+use Rattle.ib_act.specs.declared.act.Act.TheVariants.{PutNumber}
+use Rattle.wide_core.specs.declared.code.WideAct.TheVariants.{Do, Spill, Return}
 use Rattle.wide_core.specs.declared.code.Word.{Word}
 use Rattle.wide_core.specs.Meaning.{word_step}
+use Rattle.wide_core.specs.Operation.{Print as Prints, Leave, effect_on}
 use Rattle.wide_core.specs.Places.{put}
 use Rattle.first_form.specs.declared.program.Stmt.{Stmt}
 use Rattle.first_form.specs.declared.program.Stmt.TheVariants.{Declare, Assign, Print, Return as Give}
@@ -26,7 +28,7 @@ use Rattle.first_form.specs.Meaning.{Environment, assigned, sum_value, done_with
 use Rattle.first_code.specs.declared.operand.Operand.TheVariants.{Constant}
 use Rattle.first_code.specs.Operand.{load}
 use Rattle.first_code.specs.Code.{sum_code, sum_operand, sum_slot, sum_into, stmt_code, declared_after, word_of, words_of, body_words, term_slot}
-use Rattle.first_code.proofs.Shows.{Shows, at, go_on, stop_here}
+use Rattle.first_code.proofs.Shows.{Shows, at, go_on, one_step, stop_here}
 use Rattle.first_code.proofs.Ints.{IsInt, number_int}
 use Rattle.first_code.proofs.Operations.{HoldsConstant, AtHome, load_shows, spill_shows}
 use Rattle.first_code.proofs.Sums.{Kept, SameBelow, kept_below, words_split, home_behind, product_slot_grows, total_slot_grows, sum_shows}
@@ -77,20 +79,25 @@ kept_assigned env declared declared' variable z places known int kept = record {
 
 -- ---- a value in register 0 is used
 
-printed : (code : RawCode) (number : ℕ) (place : Place) (rest : List Word) (places : Loc → Tagged) (z : ℤ) (left : List ℕ) → places (Reg 0) ≡ Clear z → word_step code (at (word_of number place (PutNumber 0) ∷ rest) places) left ≡ Goes (at rest places) left (signed_decimal z)
-unfolding word_step
-printed code number place rest places z left e = rw e refl
+printed : (code : RawCode) (number : ℕ) (place : Place) (rest : List Word) (places : Loc → Tagged) (z : ℤ) (left : List ℕ) → places (Reg 0) ≡ Clear z → word_step code (at code (word_of number place (Do (PutNumber 0)) ∷ rest) places) left ≡ Goes (at code rest places) left (signed_decimal z)
+unfolding effect_on
+printed code number place rest places z left e =
+    one_step code number place (Do (PutNumber 0)) rest places left (Prints (signed_decimal z)) (λ around. rw e refl)
 
-returned : (code : RawCode) (number : ℕ) (place : Place) (rest : List Word) (places : Loc → Tagged) (z : ℤ) (left : List ℕ) → places (Reg 0) ≡ Clear z → IsInt z → word_step code (at (word_of number place (Return (Some 0)) ∷ rest) places) left ≡ Stops (Returned z) left []
-unfolding word_step
-returned code number place rest places z left e int = rw e (ap (λ (r : ℤ). Stops (Returned r) left []) (int_wrap_fits w32 z int))
+returned : (code : RawCode) (number : ℕ) (place : Place) (rest : List Word) (places : Loc → Tagged) (z : ℤ) (left : List ℕ) → places (Reg 0) ≡ Clear z → IsInt z → word_step code (at code (word_of number place (Return (Some 0)) ∷ rest) places) left ≡ Stops (Returned z) left []
+unfolding effect_on
+returned code number place rest places z left e int =
+    one_step code number place (Return (Some 0)) rest places left (Leave z) (λ around. rw e refl)
+    ∙ ap (λ (r : ℤ). Stops (Returned r) left []) (int_wrap_fits w32 z int)
 
 zero_int : IsInt (pos 0)
 zero_int = number_int 0 (omega arith)
 
-returned_none : (code : RawCode) (number : ℕ) (place : Place) (rest : List Word) (places : Loc → Tagged) (left : List ℕ) → word_step code (at (word_of number place (Return None) ∷ rest) places) left ≡ Stops (Returned (pos 0)) left []
-unfolding word_step
-returned_none code number place rest places left = ap (λ (r : ℤ). Stops (Returned r) left []) (int_wrap_fits w32 (pos 0) zero_int)
+returned_none : (code : RawCode) (number : ℕ) (place : Place) (rest : List Word) (places : Loc → Tagged) (left : List ℕ) → word_step code (at code (word_of number place (Return None) ∷ rest) places) left ≡ Stops (Returned (pos 0)) left []
+unfolding effect_on
+returned_none code number place rest places left =
+    one_step code number place (Return None) rest places left (Leave (pos 0)) (λ around. refl)
+    ∙ ap (λ (r : ℤ). Stops (Returned r) left []) (int_wrap_fits w32 (pos 0) zero_int)
 
 -- ---- statements
 
@@ -146,8 +153,8 @@ module _ (code : RawCode) (names : ℕ) where
       let few : declared ≤ names = declared_few names declared rest good.1 in
       let grows = sum_slot_grows slot sum in
       let go : ℤ → Report = λ z. run_body rest declared env (out ++ signed_decimal z) left in
-      sum_into_shows code place env declared more left out sum (PutNumber 0) number slot places go (omega arith) kept good.0 home
-      (λ n new y iy e same. go_on code (word_of n place (PutNumber 0)) more new new left (signed_decimal y) out (go y) (printed code n place more new y left e)
+      sum_into_shows code place env declared more left out sum (Do (PutNumber 0)) number slot places go (omega arith) kept good.0 home
+      (λ n new y iy e same. go_on code (word_of n place (Do (PutNumber 0))) more new new left (signed_decimal y) out (go y) (printed code n place more new y left e)
       (body_shows rest number' declared (sum_slot slot sum) env new left (out ++ signed_decimal y) (omega arith)
       (kept_below env declared slot places new (omega arith) same kept) good.1
       (home_behind code (words_of number place (stmt_code declared slot (Print place sum))) more home)))

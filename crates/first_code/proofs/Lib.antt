@@ -1,14 +1,15 @@
 pub mod Agree
 pub mod Bodies
-pub mod Fits
 pub mod Homes
 pub mod Ints
-pub mod Progress
 pub mod Operations
 pub mod Parts
 pub mod Products
+pub mod Progress
 pub mod Shows
 pub mod Sizes
 pub mod Statements
+pub mod Straight
 pub mod Sums
 pub mod Totals
+pub mod Valid

@@ -1,5 +1,5 @@
 -- An operator's words: two operands come to registers, and its value goes to its slot.
-use Rattle.std.proofs.Common.{◌≡◌, ℕ, suc, ℤ, false, List, [], ◌∷◌, ◌++◌, Result, Ok, Err, refl, ap, ◌∙◌, subst}
+use Rattle.std.proofs.Common.{◌≡◌, ℕ, suc, ℤ, List, [], ◌∷◌, ◌++◌, map, Result, Ok, Err, refl, ap, ◌∙◌, subst}
 use Rattle.std.specs.Int.{w32}
 use Rattle.std.proofs.lemmas.Int.{int_wrap_fits}
 use Rattle.ib_base.specs.declared.integers.Width.TheVariants.{W4}
@@ -14,14 +14,13 @@ use Rattle.wide_core.specs.declared.code.RawCode.{RawCode}
 use Rattle.wide_core.specs.declared.code.Tagged.{Tagged}
 use Rattle.wide_core.specs.declared.code.Tagged.TheVariants.{Clear}
 use Rattle.wide_core.specs.declared.code.WideAct.{WideAct}
-use Rattle.wide_core.specs.declared.code.WideAct.TheVariants.{Spill}
+use Rattle.ib_act.specs.declared.act.Act.TheVariants.{Const}
+use Rattle.wide_core.specs.declared.code.WideAct.TheVariants.{Do, Spill, Reload}
 use Rattle.wide_core.specs.declared.code.WideOp.{WideOp}
 use Rattle.wide_core.specs.declared.code.Word.{Word}
-use Rattle.wide_core.specs.declared.effect.Effect.{Effect}
-use Rattle.wide_core.specs.declared.effect.Effect.TheVariants.{Write, Stop}
 use Rattle.wide_core.specs.Meaning.{word_step}
 use Rattle.wide_core.specs.Parts.{home_of}
-use Rattle.wide_core.specs.Operation.{sources, effect_on}
+use Rattle.wide_core.specs.Operation.{Around, Effect, Write, Stop, sources, effect_on}
 use Rattle.wide_core.specs.Places.{put}
 use Rattle.first_form.specs.declared.program.SumOp.{SumOp}
 use Rattle.first_form.specs.declared.program.SumOp.TheVariants.{Plus, Minus}
@@ -33,7 +32,7 @@ use Rattle.first_code.specs.declared.operand.Operand.TheVariants.{InSlot, Consta
 use Rattle.first_code.specs.Operand.{load}
 use Rattle.first_code.specs.Code.{add_act, scale_act, operation, word_of, words_of}
 use Rattle.first_code.proofs.Ints.{IsInt}
-use Rattle.first_code.proofs.Shows.{Shows, at, go_silent, stop_here}
+use Rattle.first_code.proofs.Shows.{Shows, at, op_of, one_step, go_silent, stop_here}
 
 -- an operand has this value
 pub data Holds (places : Loc → Tagged) : Operand → ℤ → Type 0 where
@@ -49,9 +48,6 @@ abbrev pub AtHome : RawCode → List Word → Type 0
 AtHome code [] = Unit {0}
 AtHome code (word ∷ words) = OpsAtHome code word.ops × AtHome code words
 
-abbrev pub op_of : ℕ → Place → WideAct → WideOp
-op_of number place act = record { number = number; home = place; flagged = false; act = act }
-
 -- what an operator's operation does, where it comes to this
 abbrev operated : ℕ → Result ℤ FaultKind → Effect
 operated number (Ok z) = Write (Reg 0) (Clear z)
@@ -60,30 +56,35 @@ operated number (Err kind) = Stop number kind
 -- on these two numbers the operation comes to this
 pub record Operates (act : WideAct) (x y : ℤ) (value : Result ℤ FaultKind) : Type 0 where
   pub reads : sources act ≡ Reg 0 ∷ Reg 1 ∷ []
-  pub effect : (number : ℕ) (place : Place) → effect_on (op_of number place act) (Clear x ∷ Clear y ∷ []) ≡ operated number value
+  pub effect : (number : ℕ) (place : Place) (around : Around) → effect_on (op_of number place act) around (Clear x ∷ Clear y ∷ []) ≡ operated number value
 
 pub add_operates : (op : SumOp) (x y : ℤ) → Operates (add_act op) x y (added_by op x y)
-add_operates Plus x y = record { reads = refl; effect = λ number place. refl }
-add_operates Minus x y = record { reads = refl; effect = λ number place. refl }
+unfolding effect_on
+add_operates Plus x y = record { reads = refl; effect = λ number place around. refl }
+add_operates Minus x y = record { reads = refl; effect = λ number place around. refl }
 
 divide_operates : (x y : ℤ) → Operates (scale_act Divide) x y (quotient W4 (wrapped W4 x) (wrapped W4 y))
-divide_operates x y = record { reads = refl; effect = λ number place. by_cases number place (quotient W4 (wrapped W4 x) (wrapped W4 y)) refl }
+unfolding effect_on
+divide_operates x y = record { reads = refl; effect = λ number place around. by_cases number place around (quotient W4 (wrapped W4 x) (wrapped W4 y)) refl }
   where
-    by_cases : (number : ℕ) (place : Place) (q : Result ℤ FaultKind) → quotient W4 (wrapped W4 x) (wrapped W4 y) ≡ q → effect_on (op_of number place (scale_act Divide)) (Clear x ∷ Clear y ∷ []) ≡ operated number q
-    by_cases number place (Ok z) e = rw e refl
-    by_cases number place (Err kind) e = rw e refl
+    by_cases : (number : ℕ) (place : Place) (around : Around) (q : Result ℤ FaultKind) → quotient W4 (wrapped W4 x) (wrapped W4 y) ≡ q → effect_on (op_of number place (scale_act Divide)) around (Clear x ∷ Clear y ∷ []) ≡ operated number q
+    by_cases number place around (Ok z) e = rw e refl
+    by_cases number place around (Err kind) e = rw e refl
 
 pub scale_operates : (op : TermOp) (x y : ℤ) → IsInt x → IsInt y → Operates (scale_act op) x y (scaled_by op x y)
-scale_operates Times x y fx fy = record { reads = refl; effect = λ number place. refl }
+unfolding effect_on
+scale_operates Times x y fx fy = record { reads = refl; effect = λ number place around. refl }
 scale_operates Divide x y fx fy =
     let same : quotient W4 (wrapped W4 x) (wrapped W4 y) ≡ quotient W4 x y = ap (λ a. quotient W4 a (wrapped W4 y)) (int_wrap_fits w32 x fx) ∙ ap (λ b. quotient W4 x b) (int_wrap_fits w32 y fy) in
     subst (Operates (scale_act Divide) x y) same (divide_operates x y)
 
 -- an operand comes to a register
-loaded : (code : RawCode) (number register : ℕ) (place : Place) (rest : List Word) (places : Loc → Tagged) (x : Operand) (z : ℤ) (left : List ℕ) → Holds places x z → word_step code (at (word_of number place (load register x) ∷ rest) places) left ≡ Goes (at rest (put (Reg register) (Clear z) places)) left []
-unfolding word_step
-loaded code number register place rest places (InSlot slot) z left (HoldsSlot _ _ e) = rw e refl
-loaded code number register place rest places (Constant z) _ left (HoldsConstant _) = refl
+loaded : (code : RawCode) (number register : ℕ) (place : Place) (rest : List Word) (places : Loc → Tagged) (x : Operand) (z : ℤ) (left : List ℕ) → Holds places x z → word_step code (at code (word_of number place (load register x) ∷ rest) places) left ≡ Goes (at code rest (put (Reg register) (Clear z) places)) left []
+unfolding effect_on
+loaded code number register place rest places (InSlot slot) z left (HoldsSlot _ _ e) =
+    one_step code number place (Reload register slot) rest places left (Write (Reg register) (Clear z)) (λ around. ap (λ t. Write (Reg register) t) e)
+loaded code number register place rest places (Constant z) _ left (HoldsConstant _) =
+    one_step code number place (Do (Const register z)) rest places left (Write (Reg register) (Clear z)) (λ around. refl)
 
 pub load_shows : (code : RawCode) (number register : ℕ) (place : Place) (rest : List Word) (places : Loc → Tagged) (x : Operand) (z : ℤ) (left out : List ℕ) (report : Report) → Holds places x z → Shows code rest (put (Reg register) (Clear z) places) left out report → Shows code (word_of number place (load register x) ∷ rest) places left out report
 load_shows code number register place rest places x z left out report holds shows =
@@ -98,17 +99,23 @@ holds_behind_load places register t (Constant z) _ (HoldsConstant _) = HoldsCons
 abbrev pub behind : (Loc → Tagged) → ℕ → ℤ → ℤ → ℤ → Loc → Tagged
 behind places slot x y z = put (Slot slot) (Clear z) (put (Reg 0) (Clear z) (put (Reg 1) (Clear y) (put (Reg 0) (Clear x) places)))
 
-act_step : (code : RawCode) (number : ℕ) (place : Place) (act : WideAct) (rest : List Word) (places : Loc → Tagged) (x y z : ℤ) (left : List ℕ) → Operates act x y (Ok z) → word_step code (at (word_of number place act ∷ rest) (put (Reg 1) (Clear y) (put (Reg 0) (Clear x) places))) left ≡ Goes (at rest (put (Reg 0) (Clear z) (put (Reg 1) (Clear y) (put (Reg 0) (Clear x) places)))) left []
-unfolding word_step
-act_step code number place act rest places x y z left operates = rw (operates.reads, operates.effect number place) refl
+-- on two operands in registers
+operated_on : (act : WideAct) (places : Loc → Tagged) (x y : ℤ) (value : Result ℤ FaultKind) (number : ℕ) (place : Place) (around : Around) → Operates act x y value → effect_on (op_of number place act) around (map (put (Reg 1) (Clear y) (put (Reg 0) (Clear x) places)) (sources act)) ≡ operated number value
+operated_on act places x y value number place around operates =
+    ap (λ locs. effect_on (op_of number place act) around (map (put (Reg 1) (Clear y) (put (Reg 0) (Clear x) places)) locs)) operates.reads ∙ operates.effect number place around
 
-act_fault : (code : RawCode) (number : ℕ) (place : Place) (act : WideAct) (rest : List Word) (places : Loc → Tagged) (x y : ℤ) (kind : FaultKind) (left : List ℕ) → Operates act x y (Err kind) → word_step code (at (word_of number place act ∷ rest) (put (Reg 1) (Clear y) (put (Reg 0) (Clear x) places))) left ≡ Stops (Faulted (home_of code number) kind) left []
-unfolding word_step
-act_fault code number place act rest places x y kind left operates = rw (operates.reads, operates.effect number place) refl
+act_step : (code : RawCode) (number : ℕ) (place : Place) (act : WideAct) (rest : List Word) (places : Loc → Tagged) (x y z : ℤ) (left : List ℕ) → Operates act x y (Ok z) → word_step code (at code (word_of number place act ∷ rest) (put (Reg 1) (Clear y) (put (Reg 0) (Clear x) places))) left ≡ Goes (at code rest (put (Reg 0) (Clear z) (put (Reg 1) (Clear y) (put (Reg 0) (Clear x) places)))) left []
+act_step code number place act rest places x y z left operates =
+    one_step code number place act rest (put (Reg 1) (Clear y) (put (Reg 0) (Clear x) places)) left (Write (Reg 0) (Clear z)) (λ around. operated_on act places x y (Ok z) number place around operates)
 
-spilled : (code : RawCode) (number slot : ℕ) (place : Place) (rest : List Word) (places : Loc → Tagged) (z : ℤ) (left : List ℕ) → places (Reg 0) ≡ Clear z → word_step code (at (word_of number place (Spill slot 0) ∷ rest) places) left ≡ Goes (at rest (put (Slot slot) (Clear z) places)) left []
-unfolding word_step
-spilled code number slot place rest places z left e = rw e refl
+act_fault : (code : RawCode) (number : ℕ) (place : Place) (act : WideAct) (rest : List Word) (places : Loc → Tagged) (x y : ℤ) (kind : FaultKind) (left : List ℕ) → Operates act x y (Err kind) → word_step code (at code (word_of number place act ∷ rest) (put (Reg 1) (Clear y) (put (Reg 0) (Clear x) places))) left ≡ Stops (Faulted (home_of code number) kind) left []
+act_fault code number place act rest places x y kind left operates =
+    one_step code number place act rest (put (Reg 1) (Clear y) (put (Reg 0) (Clear x) places)) left (Stop number kind) (λ around. operated_on act places x y (Err kind) number place around operates)
+
+spilled : (code : RawCode) (number slot : ℕ) (place : Place) (rest : List Word) (places : Loc → Tagged) (z : ℤ) (left : List ℕ) → places (Reg 0) ≡ Clear z → word_step code (at code (word_of number place (Spill slot 0) ∷ rest) places) left ≡ Goes (at code rest (put (Slot slot) (Clear z) places)) left []
+unfolding effect_on
+spilled code number slot place rest places z left e =
+    one_step code number place (Spill slot 0) rest places left (Write (Slot slot) (Clear z)) (λ around. ap (λ t. Write (Slot slot) t) e)
 
 pub spill_shows : (code : RawCode) (number slot : ℕ) (place : Place) (rest : List Word) (places : Loc → Tagged) (z : ℤ) (left out : List ℕ) (report : Report) → places (Reg 0) ≡ Clear z → Shows code rest (put (Slot slot) (Clear z) places) left out report → Shows code (word_of number place (Spill slot 0) ∷ rest) places left out report
 spill_shows code number slot place rest places z left out report e shows =

@@ -2,7 +2,8 @@
 use Rattle.std.proofs.Common.{◌≡◌, ℕ, suc, ◌+◌, ◌*◌, ◌≤◌, List, [], ◌∷◌, ◌++◌, length, Some, None, ap, ◌∙◌, subst, arith, length-append}
 use Rattle.ib_meaning.specs.declared.place.Place.{Place}
 use Rattle.wide_core.specs.declared.code.WideAct.{WideAct}
-use Rattle.wide_core.specs.declared.code.WideAct.TheVariants.{PutNumber, Spill, Return}
+use Rattle.ib_act.specs.declared.act.Act.TheVariants.{PutNumber}
+use Rattle.wide_core.specs.declared.code.WideAct.TheVariants.{Do, Spill, Return}
 use Rattle.first_form.specs.declared.program.Addend.{Addend}
 use Rattle.first_form.specs.declared.program.Factor.{Factor}
 use Rattle.first_form.specs.declared.program.Factor.TheVariants.{Variable, Number, Negative}
@@ -88,7 +89,7 @@ body_few names later (Assign place variable sum ∷ rest) words number declared 
     let h = body_few names later rest are.0 (number + length (stmt_code declared slot (Assign place variable sum))) declared (sum_slot slot sum) are.5 in omega arith
 body_few names later (Print place sum ∷ rest) words number declared slot are =
     let e = begins_length (kind.Putint ∷ kind.LeftParen ∷ sum_before names sum (kind.RightParen ∷ kind.Semicolon ∷ [])) words are.0 are.3 in
-    let f = sum_into_few names slot sum (PutNumber 0) (kind.RightParen ∷ kind.Semicolon ∷ []) in
+    let f = sum_into_few names slot sum (Do (PutNumber 0)) (kind.RightParen ∷ kind.Semicolon ∷ []) in
     let l = length_stmt number declared slot (Print place sum) rest in
     let h = body_few names later rest are.0 (number + length (stmt_code declared slot (Print place sum))) declared (sum_slot slot sum) are.4 in omega arith
 body_few names later (Give place sum ∷ rest) words number declared slot are =
@@ -122,7 +123,7 @@ stmt_slots : (declared slot : ℕ) (stmt : Stmt) → stmt_slot slot stmt ≤ slo
 stmt_slots declared slot (Declare place None) = omega arith
 stmt_slots declared slot (Declare place (Some sum)) = sum_slots slot sum (Spill declared 0)
 stmt_slots declared slot (Assign place variable sum) = sum_slots slot sum (Spill variable 0)
-stmt_slots declared slot (Print place sum) = sum_slots slot sum (PutNumber 0)
+stmt_slots declared slot (Print place sum) = sum_slots slot sum (Do (PutNumber 0))
 stmt_slots declared slot (Give place sum) = sum_slots slot sum (Return (Some 0))
 
 pub body_slots : (number declared slot : ℕ) (body : List Stmt) → body_slot slot body ≤ slot + length (body_words number declared slot body)

@@ -1,13 +1,13 @@
 -- The code of a program of the first form: one operation per word, none of them flagged. A variable has the slot of its
 -- number, and the value of each operator a slot of its own behind those.
-use Rattle.std.specs.Prelude.{ℕ, suc, ◌+◌, pos, false, List, [], ◌∷◌, ◌++◌, length, Some, None}
+use Rattle.std.specs.Prelude.{ℕ, suc, ◌+◌, pos, false, List, [], ◌∷◌, ◌++◌, length, Some, None, codes}
 use Rattle.ib_meaning.specs.declared.place.Place.{Place}
-use Rattle.wide_core.specs.declared.code.Size.TheVariants.{Four}
+use Rattle.ib_act.specs.declared.act.Size.TheVariants.{Four}
+use Rattle.ib_act.specs.declared.act.Act.TheVariants.{Const, Add, Sub, Mul, Div, PutNumber}
 use Rattle.wide_core.specs.declared.code.WideAct.{WideAct}
-use Rattle.wide_core.specs.declared.code.WideAct.TheVariants.{Const, Add, Sub, Mul, Div, PutNumber, Spill, Return}
+use Rattle.wide_core.specs.declared.code.WideAct.TheVariants.{Do, Spill, Return}
 use Rattle.wide_core.specs.declared.code.Word.{Word}
 use Rattle.wide_core.specs.declared.code.RawCode.{RawCode}
-use Rattle.wide_core.specs.Parts.{main_code}
 use Rattle.first_form.specs.declared.program.Addend.{Addend}
 use Rattle.first_form.specs.declared.program.Multiplier.{Multiplier}
 use Rattle.first_form.specs.declared.program.Program.{Program}
@@ -26,12 +26,12 @@ use Rattle.first_code.specs.Operand.{operand_of, load}
 
 -- an operator on the registers 0 and 1, with its value in register 0
 abbrev pub add_act : SumOp → WideAct
-add_act Plus = Add Four 0 0 1
-add_act Minus = Sub Four 0 0 1
+add_act Plus = Do (Add Four 0 0 1)
+add_act Minus = Do (Sub Four 0 0 1)
 
 abbrev pub scale_act : TermOp → WideAct
-scale_act Times = Mul Four 0 0 1
-scale_act Over = Div Four 0 0 1
+scale_act Times = Do (Mul Four 0 0 1)
+scale_act Over = Do (Div Four 0 0 1)
 
 -- an operator on two operands, whose value goes to a slot
 abbrev pub operation : WideAct → Operand → Operand → ℕ → List WideAct
@@ -95,14 +95,14 @@ sum_into slot sum act = sum_code slot sum ++ (load 0 (sum_operand slot sum) ∷ 
 
 -- a variable gets 0
 abbrev pub zero_code : ℕ → List WideAct
-zero_code variable = Const 0 (pos 0) ∷ Spill variable 0 ∷ []
+zero_code variable = Do (Const 0 (pos 0)) ∷ Spill variable 0 ∷ []
 
 -- a statement, where so many variables are declared and this is the next free slot
 abbrev pub stmt_code : ℕ → ℕ → Stmt → List WideAct
 stmt_code declared slot (Declare place None) = zero_code declared
 stmt_code declared slot (Declare place (Some sum)) = sum_into slot sum (Spill declared 0)
 stmt_code declared slot (Assign place variable sum) = sum_into slot sum (Spill variable 0)
-stmt_code declared slot (Print place sum) = sum_into slot sum (PutNumber 0)
+stmt_code declared slot (Print place sum) = sum_into slot sum (Do (PutNumber 0))
 stmt_code declared slot (Give place sum) = sum_into slot sum (Return (Some 0))
 
 abbrev pub stmt_slot : ℕ → Stmt → ℕ
@@ -137,6 +137,13 @@ body_words number declared slot (stmt ∷ rest) =
 abbrev pub body_slot : ℕ → List Stmt → ℕ
 body_slot slot [] = slot
 body_slot slot (stmt ∷ rest) = body_slot (stmt_slot slot stmt) rest
+
+-- code of one function `main`, with so many slots and these words
+abbrev pub main_code : ℕ → List Word → RawCode
+main_code slots words = record {
+  image = [];
+  funcs = record { name = codes "main"; params = []; frame = 0; slots = slots; words = words } ∷ [];
+}
 
 abbrev pub code_of : Program → RawCode
 code_of program = main_code (body_slot (length program.names) program.body) (body_words 1 0 (length program.names) program.body)

@@ -1,7 +1,8 @@
 -- Operands: where values are, and how they come to registers.
 use Rattle.std.specs.Prelude.{ℕ, pos, neg_ℤ}
 use Rattle.wide_core.specs.declared.code.WideAct.{WideAct}
-use Rattle.wide_core.specs.declared.code.WideAct.TheVariants.{Const, Reload}
+use Rattle.ib_act.specs.declared.act.Act.TheVariants.{Const}
+use Rattle.wide_core.specs.declared.code.WideAct.TheVariants.{Do, Reload}
 use Rattle.first_form.specs.declared.program.Factor.{Factor}
 use Rattle.first_form.specs.declared.program.Factor.TheVariants.{Variable, Number, Negative}
 use Rattle.first_code.specs.declared.operand.Operand.{Operand}
@@ -16,4 +17,4 @@ operand_of (Negative n) = Constant (neg_ℤ (pos n))
 -- brings an operand to a register
 abbrev pub load : ℕ → Operand → WideAct
 load to (InSlot slot) = Reload to slot
-load to (Constant z) = Const to z
+load to (Constant z) = Do (Const to z)

@@ -4,10 +4,11 @@ ghost use Rattle.first_code.specs.Made.{Makes, HasRoom, MakesBody, HasBodyRoom, 
 
 use crate::operand::Operand;
 use first_form::{Addend, Multiplier, Stmt, Sum, SumOp, Term, TermOp};
+use ib_act::{Act, Size};
 use ib_base::Place;
 use sqlite_items::Items;
 use std::alloc::{AllocError, Global};
-use wide_core::{Size, WideAct, WideOp, Word};
+use wide_core::{WideAct, WideOp, Word};
 
 /// The words made so far, the next free slot, and the place of the statement at hand.
 #[derive(Drop)]
@@ -44,7 +45,7 @@ impl CodeMaker {
         self.emit(alloc, a.load(0))?;
         self.emit(alloc, b.load(1))?;
         self.emit(alloc, act)?;
-        self.emit(alloc, WideAct::Spill { to: slot, a: 0 })?;
+        self.emit(alloc, WideAct::Spill { to: slot, from: 0 })?;
         self.slot += 1;
         Ok(Operand::InSlot(slot))
     }
@@ -165,7 +166,16 @@ impl CodeMaker {
             Stmt::Declare {
                 value: Some(sum),
                 ..
-            } => { self.sum_into(alloc, sum, WideAct::Spill { to: declared, a: 0 }) }
+            } => {
+                self.sum_into(
+                    alloc,
+                    sum,
+                    WideAct::Spill {
+                        to: declared,
+                        from: 0,
+                    },
+                )
+            }
             Stmt::Assign {
                 variable,
                 value,
@@ -176,11 +186,13 @@ impl CodeMaker {
                     value,
                     WideAct::Spill {
                         to: *variable,
-                        a: 0,
+                        from: 0,
                     },
                 )
             }
-            Stmt::Print { value, .. } => self.sum_into(alloc, value, WideAct::PutNumber { a: 0 }),
+            Stmt::Print { value, .. } => {
+                self.sum_into(alloc, value, WideAct::Do(Act::PutNumber { from: 0 }))
+            }
             Stmt::Return { value, .. } => self.sum_into(alloc, value, WideAct::Return(Some(0))),
         }
     }
@@ -189,8 +201,14 @@ impl CodeMaker {
         requires { HasRoom self.old (zero_code declared) self.old.slot }
         ensures { OnOk result (Makes self.old self.new (zero_code declared) self.old.slot) }
     {
-        self.emit(alloc, WideAct::Const { to: 0, value: 0 })?;
-        self.emit(alloc, WideAct::Spill { to: declared, a: 0 })
+        self.emit(alloc, WideAct::Do(Act::Const { to: 0, value: 0 }))?;
+        self.emit(
+            alloc,
+            WideAct::Spill {
+                to: declared,
+                from: 0,
+            },
+        )
     }
 }
 
@@ -198,40 +216,40 @@ fn add_act(op: SumOp) -> WideAct
     ensures { result ≡ add_act op }
 {
     let size = Size::Four;
-    match op {
-        SumOp::Plus => WideAct::Add {
+    WideAct::Do(match op {
+        SumOp::Plus => Act::Add {
             size,
             to: 0,
-            a: 0,
-            b: 1,
+            left: 0,
+            right: 1,
         },
-        SumOp::Minus => WideAct::Sub {
+        SumOp::Minus => Act::Sub {
             size,
             to: 0,
-            a: 0,
-            b: 1,
+            left: 0,
+            right: 1,
         },
-    }
+    })
 }
 
 fn scale_act(op: TermOp) -> WideAct
     ensures { result ≡ scale_act op }
 {
     let size = Size::Four;
-    match op {
-        TermOp::Times => WideAct::Mul {
+    WideAct::Do(match op {
+        TermOp::Times => Act::Mul {
             size,
             to: 0,
-            a: 0,
-            b: 1,
+            left: 0,
+            right: 1,
         },
-        TermOp::Over => WideAct::Div {
+        TermOp::Over => Act::Div {
             size,
             to: 0,
-            a: 0,
-            b: 1,
+            left: 0,
+            right: 1,
         },
-    }
+    })
 }
 
 fn declared_after(declared: u32, stmt: &Stmt) -> u32

@@ -2,6 +2,7 @@ ghost use Rattle.std.specs.Prelude.{◌≡◌};
 ghost use Rattle.first_code.specs.Operand.{operand_of, load};
 
 use first_form::Factor;
+use ib_act::Act;
 use wide_core::WideAct;
 
 /// Where the value of an operator or a factor is.
@@ -27,8 +28,8 @@ impl Operand {
         ensures { result ≡ load to self }
     {
         match self {
-            Operand::InSlot(slot) => WideAct::Reload { to, a: slot },
-            Operand::Constant(value) => WideAct::Const { to, value },
+            Operand::InSlot(slot) => WideAct::Reload { to, from: slot },
+            Operand::Constant(value) => WideAct::Do(Act::Const { to, value }),
         }
     }
 }

@@ -18,7 +18,7 @@ fn counts(alloc: Global, source: &[u8]) -> Option<(usize, u32)> {
     let Ok(code) = make(alloc, &program) else {
         return None;
     };
-    let main = code.funcs.get(0)?;
+    let main = code.raw().funcs.get(0)?;
     Some((main.words.len(), main.slots))
 }
 

@@ -1,9 +1,11 @@
 -- The work of `run F`, put together.
 use Rattle.std.proofs.Common.{◌≡◌, inl, inr, ℕ, List, Result, Ok, Err, IfOk, IfErr, Some, refl, sym, ap, subst}
 use Rattle.std.specs.Prelude.{IsErrOf}
-use Rattle.ib_meaning.specs.Agreement.{HasOver, IsPrefix, out_of}
-use Rattle.ib_meaning.proofs.Agreement.{same_ends, prefix_refl}
+use Rattle.ib_meaning.specs.Agreement.{IsPrefix, out_of}
+use Rattle.ib_meaning.proofs.Agreement.{prefix_refl}
 use Rattle.ib_base.specs.World.{World}
+use Rattle.ib_run.specs.OverHost.{OverHost}
+use Rattle.ib_run.proofs.OverHost.{over_weaken}
 use Rattle.first_form.specs.declared.program.Program.{Program}
 use Rattle.first_form.specs.Meaning.{source_meaning}
 use Rattle.impactc_core.specs.declared.core_err.CoreErr.{CoreErr}
@@ -14,7 +16,7 @@ use Rattle.impactc_core.specs.declared.success.Success.TheVariants.{Ended, Fault
 use Rattle.impactc_core.specs.declared.words.Command.TheVariants.{Run}
 use Rattle.impactc_core.specs.Answers.{IsPlain, IsSource, HasProgram, HasRun, RunAnswer, MayChange, Works}
 use Rattle.impactc_core.specs.Notes.{status_of, note_of, refusal_note}
-use Rattle.impactc_core.specs.Runs.{ForInput, PrintsPartOf, finish_of}
+use Rattle.impactc_core.specs.Runs.{BeginsOutput, EndsAlike}
 use Rattle.impactc_core.specs.Work.{IsReadErr, IsBreak, IsSourceErr, BreaksOff, RunsProgram, RunsSource, RefusesSource}
 
 pub runs_source : (bytes : List ℕ) (program : Program) (success : Success) (old new : World) → HasProgram bytes program → RunsProgram program success old new → RunsSource bytes success old new
@@ -29,23 +31,15 @@ no_host_fault file bytes refusal is e =
     let same : refusal ≡ Host = cc in
     subst (IsSourceErr file bytes) same is
 
-pub refuses_broken : (file bytes : List ℕ) (program : Program) (refusal : CoreErr) (old new : World) → HasProgram bytes program → IsBreak refusal → PrintsPartOf (source_meaning program) old new → RefusesSource file bytes refusal old new
+pub refuses_broken : (file bytes : List ℕ) (program : Program) (refusal : CoreErr) (old new : World) → HasProgram bytes program → IsBreak refusal → OverHost (BeginsOutput (source_meaning program)) old new → RefusesSource file bytes refusal old new
 refuses_broken file bytes program refusal old new has is part = inr (record { program = program; form = has; is_break = is; prints = part })
 
--- where a code is over, its program is, alike
-source_ends : (program : Program) (success : Success) (old new : World) → (runs : RunsProgram program success old new) → ForInput old new (λ input left. HasOver (source_meaning program) input (finish_of success) runs.runs.out left)
-source_ends program success old new runs left told =
-    let at = runs.runs.from left told in
-    (at.0, at.1, (same_ends runs.agrees at.0 (finish_of success) runs.runs.out left).1 (_, at.2))
-
-prints_all : (program : Program) (success : Success) (old new : World) → RunsProgram program success old new → PrintsPartOf (source_meaning program) old new
-prints_all program success old new runs = record {
-  out = runs.runs.out;
-  world = runs.runs.world;
-  begins = λ left told.
-      let at = source_ends program success old new runs left told in
-      (at.0, at.1, (at.2.0, subst (λ (report : _). IsPrefix runs.runs.out (out_of report)) (sym at.2.1) (prefix_refl runs.runs.out)));
-}
+prints_all : (program : Program) (success : Success) (old new : World) → RunsProgram program success old new → OverHost (BeginsOutput (source_meaning program)) old new
+prints_all program success old new runs =
+    over_weaken (EndsAlike program runs.code success) (BeginsOutput (source_meaning program)) old new runs.runs
+    (λ input left out alike.
+    let source = alike.source_ends in
+    (source.0, subst (λ (report : _). IsPrefix out (out_of report)) (sym source.1) (prefix_refl out)))
 
 has_run : (file bytes : List ℕ) (success : Success) (old new : World) → IsSource file old bytes → RunsSource bytes success old new → HasRun file success old new (note_of (Ok success))
 has_run file bytes success old new source ran = record {
@@ -55,10 +49,11 @@ has_run file bytes success old new source ran = record {
   source = source;
   form = ran.form;
   plain = ran.runs.plain;
+  valid = ran.runs.valid;
   agrees = ran.runs.agrees;
   some = ran.runs.some;
+  few = ran.runs.few;
   runs = ran.runs.runs;
-  source_ends = source_ends ran.program success old new ran.runs;
   says = refl;
 }
 

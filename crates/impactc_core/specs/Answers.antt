@@ -3,11 +3,13 @@ use Rattle.std.specs.Prelude.{◌≡◌, ◌≤◌, ◌<◌, ◌⊎◌, ⊤, ℕ
 use Rattle.std.specs.FinMap.{get}
 use Rattle.ib_meaning.specs.declared.fault.FaultKind.{FaultKind}
 use Rattle.ib_meaning.specs.declared.place.Place.{Place}
-use Rattle.ib_meaning.specs.Agreement.{Agrees, HasOver}
+use Rattle.ib_meaning.specs.Agreement.{Agrees}
 use Rattle.ib_base.specs.Cause.{Rose}
 use Rattle.ib_base.specs.World.{World, HasFile, LacksFile, Begins, noted}
+use Rattle.ib_run.specs.OverHost.{OverHost}
+use Rattle.machine_desc.specs.Machine.{four_units}
 use Rattle.wide_core.specs.declared.code.RawCode.{RawCode}
-use Rattle.wide_core.specs.Meaning.{wide_meaning}
+use Rattle.wide_core.specs.Valid.{IsValid, limits}
 use Rattle.c_ast.specs.declared.token.Token.{Token}
 use Rattle.c_ast.specs.Cut.{AreTokens, StopsAt}
 use Rattle.c_ast.specs.Grammar.{IsUnit}
@@ -31,8 +33,7 @@ use Rattle.impactc_core.specs.declared.success.Success.TheVariants.{Ended, Fault
 use Rattle.impactc_core.specs.declared.words.Command.{Command}
 use Rattle.impactc_core.specs.declared.words.Command.TheVariants.{Run}
 use Rattle.impactc_core.specs.Notes.{success_note, refusal_note}
-use Rattle.wide_sim.specs.Simulated.{Finishes}
-use Rattle.impactc_core.specs.Runs.{ForInput, PrintsPartOf, finish_of, cycles_of}
+use Rattle.impactc_core.specs.Runs.{BeginsOutput, EndsAlike, code_meaning, cycles_of}
 
 -- any status but those of a failing host and of want of memory
 abbrev pub IsPlain : Status → Type 0
@@ -129,10 +130,11 @@ pub record HasRun (file : List ℕ) (success : Success) (old new : World) (note 
   pub source : IsSource file old content
   pub form : HasProgram content program
   pub plain : IsPlainCode code
-  pub agrees : Agrees (source_meaning program) (wide_meaning code)
+  pub valid : IsValid (limits 4 32 four_units) code
+  pub agrees : Agrees (source_meaning program) (code_meaning code)
   pub some : 1 ≤ cycles_of success
-  pub runs : Finishes (wide_meaning code) (finish_of success) (cycles_of success) 100000000 old new
-  pub source_ends : ForInput old new (λ input left. HasOver (source_meaning program) input (finish_of success) runs.out left)
+  pub few : cycles_of success ≤ 100000000
+  pub runs : OverHost (EndsAlike program code success) old new
   pub says : note ≡ success_note success
 
 -- what `run F` answers, by its status, by the worlds before and behind its work, and by its note
@@ -149,7 +151,7 @@ pub record HasRunInPart (file : List ℕ) (old new : World) : Type 0 where
   pub program : Program
   pub source : IsSource file old content
   pub form : HasProgram content program
-  pub prints : PrintsPartOf (source_meaning program) old new
+  pub prints : OverHost (BeginsOutput (source_meaning program)) old new
 
 -- ---- every command
 

@@ -1,15 +1,18 @@
--- What a run over a host shows, in terms of a meaning.
-use Rattle.std.specs.Prelude.{◌≡◌, ℕ, List}
-use Rattle.ib_meaning.specs.Agreement.{Finish, Returned, Faulted, Meaning, IsPrefix, out_of}
-use Rattle.ib_base.specs.World.{World}
-use Rattle.wide_sim.specs.Simulation.{HasInput, told}
+-- What a run over a host shows, in terms of a program's meaning.
+use Rattle.std.specs.Prelude.{ℕ, List}
+use Rattle.ib_meaning.specs.Agreement.{Finish, Returned, Faulted, Meaning, HasOver, IsPrefix, out_of}
+use Rattle.machine_desc.specs.Machine.{four_latency}
+use Rattle.wide_core.specs.declared.code.RawCode.{RawCode}
+use Rattle.wide_core.specs.Meaning.{wide_meaning}
+use Rattle.wide_sim.specs.Simulation.{EndsAfter}
+use Rattle.first_form.specs.declared.program.Program.{Program}
+use Rattle.first_form.specs.Meaning.{source_meaning}
 use Rattle.impactc_core.specs.declared.success.Success.{Success}
 use Rattle.impactc_core.specs.declared.success.Success.TheVariants.{Ended, Faulted as Fault}
 
--- Whatever input is left, by what the host tells, it was left of some input that the host told before, and this is so of
--- the two. A host that tells its input leaves no choice of either.
-abbrev pub ForInput : World → World → ((input left : List ℕ) → Type 0) → Type 0
-ForInput old new P = (left : List ℕ) → HasInput new left → (input : List ℕ) × HasInput old input × P input left
+-- what code means on the machine that it is made for
+abbrev pub code_meaning : RawCode → Meaning
+code_meaning code = wide_meaning four_latency code
 
 -- how a run ended that came to its end, and how many cycles it took
 abbrev pub finish_of : Success → Finish
@@ -20,8 +23,12 @@ abbrev pub cycles_of : Success → ℕ
 cycles_of (Ended result cycles) = cycles
 cycles_of (Fault place kind cycles) = cycles
 
--- what was printed begins an output of the meaning, and nothing else changed but for the input
-pub record PrintsPartOf (meaning : Meaning) (old new : World) : Type 0 where
-  pub out : List ℕ
-  pub world : new ≡ told old new.input out
-  pub begins : ForInput old new (λ input left. (n : ℕ) × IsPrefix out (out_of (meaning input n)))
+-- the code comes to this end in so many cycles and no fewer, and the program to the same end, from the same input, with
+-- the same output and the same input left
+pub record EndsAlike (program : Program) (code : RawCode) (success : Success) (input left out : List ℕ) : Type 0 where
+  pub code_ends : EndsAfter (code_meaning code) (finish_of success) (cycles_of success) input left out
+  pub source_ends : HasOver (source_meaning program) input (finish_of success) out left
+
+-- what was printed begins an output of the meaning
+abbrev pub BeginsOutput : Meaning → (input left out : List ℕ) → Type 0
+BeginsOutput meaning input left out = (n : ℕ) × IsPrefix out (out_of (meaning input n))

@@ -2,8 +2,11 @@
 use Rattle.std.specs.Prelude.{◌≡◌, ◌≤◌, ◌<◌, ◌⊎◌, ⊤, ℕ, List, length, slice_get, Result}
 use Rattle.ib_meaning.specs.Agreement.{Agrees}
 use Rattle.ib_base.specs.World.{World, HasFile, Begins, noted}
+use Rattle.ib_run.specs.OverHost.{OverHost}
+use Rattle.machine_desc.specs.Machine.{four_units}
 use Rattle.wide_core.specs.declared.code.RawCode.{RawCode}
-use Rattle.wide_core.specs.Meaning.{wide_meaning}
+use Rattle.wide_core.specs.Valid.{IsValid, limits}
+use Rattle.wide_sim.specs.Simulation.{EndsAfter}
 use Rattle.first_form.specs.declared.program.Program.{Program}
 use Rattle.first_form.specs.Meaning.{source_meaning}
 use Rattle.first_code.specs.Plain.{IsPlain as IsPlainCode}
@@ -22,8 +25,7 @@ use Rattle.impactc_core.specs.declared.status.Status.TheVariants.{HostFault, NoM
 use Rattle.impactc_core.specs.declared.success.Success.{Success}
 use Rattle.impactc_core.specs.Answers.{IsPlain, NestsTooDeep, HasProgram, HasFault, place_of}
 use Rattle.impactc_core.specs.Notes.{refusal_note, status_of, note_of}
-use Rattle.wide_sim.specs.Simulated.{Finishes}
-use Rattle.impactc_core.specs.Runs.{PrintsPartOf, finish_of, cycles_of}
+use Rattle.impactc_core.specs.Runs.{BeginsOutput, EndsAlike, code_meaning, finish_of, cycles_of}
 
 -- the file's content passes the limit
 pub record IsLarge (file : List ℕ) (w : World) : Type 0 where
@@ -44,13 +46,21 @@ IsBreak Host = ⊤
 IsBreak Memory = ⊤
 IsBreak refusal = ⊥
 
+-- the code was run to its end
+pub record EndsCode (code : RawCode) (success : Success) (old new : World) : Type 0 where
+  pub some : 1 ≤ cycles_of success
+  pub few : cycles_of success ≤ 100000000
+  pub runs : OverHost (EndsAfter (code_meaning code) (finish_of success) (cycles_of success)) old new
+
 -- a code of the program was run to its end
 pub record RunsProgram (program : Program) (success : Success) (old new : World) : Type 0 where
   pub code : RawCode
   pub plain : IsPlainCode code
-  pub agrees : Agrees (source_meaning program) (wide_meaning code)
+  pub valid : IsValid (limits 4 32 four_units) code
+  pub agrees : Agrees (source_meaning program) (code_meaning code)
   pub some : 1 ≤ cycles_of success
-  pub runs : Finishes (wide_meaning code) (finish_of success) (cycles_of success) 100000000 old new
+  pub few : cycles_of success ≤ 100000000
+  pub runs : OverHost (EndsAlike program code success) old new
 
 -- the text that a status goes with, behind this work
 abbrev pub NoteFor : Result Success CoreErr → Status → List ℕ → Type 0
@@ -98,7 +108,7 @@ pub record BreaksOff (bytes : List ℕ) (refusal : CoreErr) (old new : World) : 
   pub program : Program
   pub form : HasProgram bytes program
   pub is_break : IsBreak refusal
-  pub prints : PrintsPartOf (source_meaning program) old new
+  pub prints : OverHost (BeginsOutput (source_meaning program)) old new
 
 -- why a source within the limit was not run to its end: it gives no program, and then nothing changed; or its run broke off
 abbrev pub RefusesSource : (file bytes : List ℕ) → CoreErr → (old new : World) → Type 0

@@ -3,21 +3,20 @@ ghost use Rattle.ib_meaning.specs.Agreement.{IsOver};
 ghost use Rattle.ib_base.specs.World.{LacksFile};
 ghost use Rattle.first_code.specs.Made.{IsShort};
 ghost use Rattle.first_form.specs.Meaning.{source_meaning};
-ghost use Rattle.wide_core.specs.Meaning.{wide_meaning};
-ghost use Rattle.wide_sim.specs.Fits.{fits};
-ghost use Rattle.wide_sim.specs.Simulated.{Finishes};
+ghost use Rattle.ib_run.specs.OverHost.{OverHost};
 ghost use Rattle.impactc_core.specs.Answers.{IsSource, IsCaused, Works, RunAnswer, MayChange};
 ghost use Rattle.impactc_core.specs.Notes.{status_of, note_of};
-ghost use Rattle.impactc_core.specs.Runs.{PrintsPartOf, finish_of, cycles_of};
-ghost use Rattle.impactc_core.specs.Work.{IsReadErr, IsBreak, RunsProgram, RunsSource, RefusesSource};
+ghost use Rattle.impactc_core.specs.Runs.{BeginsOutput, code_meaning};
+ghost use Rattle.impactc_core.specs.Work.{EndsCode, IsReadErr, IsBreak, RunsProgram, RunsSource, RefusesSource};
 
 use crate::front::program_of;
 use crate::{Command, CoreErr, FileName, Limit, Success};
 use first_code::make;
 use first_form::Program;
 use ib_base::{Host, HostErr};
+use machine_desc::Four;
 use std::alloc::Global;
-use wide_core::RawCode;
+use wide_core::WideCode;
 use wide_sim::{SimErr, SimOutcome, simulate};
 
 /// The greatest size of a source, in bytes.
@@ -57,17 +56,14 @@ pub fn read_source<H: Host>(
 }
 
 /// Runs code that is over within the cycles.
-#[tactic(auto, using(crate::proofs::Ran::some_cycles, crate::proofs::Ran::not_spent, crate::proofs::Ran::part_of))]
-fn run_code<H: Host>(alloc: Global, code: &RawCode, host: &mut H) -> Result<Success, CoreErr>
-    requires code { fits code.now ≡ true }
-    requires ends { (input : List ℕ) → IsOver (wide_meaning code.now input 100000000) }
-    ensures some { IfOk result (λ success. 1 ≤ cycles_of success) }
-    ensures ran { IfOk result (λ success.
-        Finishes (wide_meaning code.now) (finish_of success) (cycles_of success) 100000000
-        (H.world host.old) (H.world host.new)) }
-    ensures broke { IfErr result IsBreak }
-    ensures printed { OnErr result (PrintsPartOf (wide_meaning code.now) (H.world host.old)
+#[tactic(auto, using(crate::proofs::Ran::ended, crate::proofs::Ran::reported, crate::proofs::Ran::not_spent, crate::proofs::Ran::begins_output))]
+fn run_code<H: Host>(alloc: Global, code: &WideCode<Four>, host: &mut H) -> Result<Success, CoreErr>
+    requires { (input : List ℕ) → IsOver (code_meaning code.now input 100000000) }
+    ensures ran { IfOk result (λ success. EndsCode code.now success (H.world host.old)
         (H.world host.new)) }
+    ensures broke { IfErr result IsBreak }
+    ensures printed { OnErr result (OverHost (BeginsOutput (code_meaning code.now))
+        (H.world host.old) (H.world host.new)) }
     ensures cause { IsCaused (H.faults host.old) (H.faults host.new)
         (IsErrOf result CoreErr.HostFault) }
     ensures still_sure { H.sure host.old → H.sure host.new }
@@ -101,8 +97,8 @@ fn run_program<H: Host>(alloc: Global, program: &Program, host: &mut H) -> Resul
     ensures ran { IfOk result (λ success. RunsProgram program.now success (H.world host.old)
         (H.world host.new)) }
     ensures broke { IfErr result IsBreak }
-    ensures printed { OnErr result (PrintsPartOf (source_meaning program.now) (H.world host.old)
-        (H.world host.new)) }
+    ensures printed { OnErr result (OverHost (BeginsOutput (source_meaning program.now))
+        (H.world host.old) (H.world host.new)) }
     ensures cause { IsCaused (H.faults host.old) (H.faults host.new)
         (IsErrOf result CoreErr.HostFault) }
     ensures still_sure { H.sure host.old → H.sure host.new }

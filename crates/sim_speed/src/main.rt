@@ -8,8 +8,8 @@ use machine_desc::Four;
 use sqlite_items::Items;
 use std::alloc::{AllocError, Global};
 use std::process::ExitCode;
-use tagged_core::{RawCode, WideAct, WideCode, WideFunc, WideOp, Word};
-use tagged_sim::{SimErr, SimOutcome, simulate};
+use wide_core::{RawCode, WideAct, WideCode, WideFunc, WideOp, Word};
+use wide_sim::{SimErr, SimOutcome, simulate};
 
 /// Three cycles each, four before them and one behind.
 const TURNS: i64 = 6_666_665;

@@ -1,5 +1,5 @@
 -- The machine by cycles agrees with the machine by words, within 16 cycles a word.
-use Rattle.std.proofs.Common.{◌≡◌, ℕ, zero, suc, ◌+◌, ◌*◌, ◌≤◌, Bool, true, false, nat_lt, List, [], ◌∷◌, Option, Some, None, refl, ap, subst, arith}
+use Rattle.std.proofs.Common.{◌≡◌, ℕ, zero, suc, ◌+◌, ◌*◌, ◌≤◌, Bool, true, false, nat_lt, List, [], ◌∷◌, Option, Some, None, get_or, refl, ap, subst, arith}
 use Rattle.std.specs.List.{list_any}
 use Rattle.std.proofs.lemmas.Bool.Decides.{nat_tests}
 use Rattle.ib_meaning.specs.Agreement.{Agrees, Within}
@@ -7,14 +7,15 @@ use Rattle.ib_meaning.specs.Machine.{Machine, Step, Goes, Stops, means}
 use Rattle.ib_meaning.proofs.Machine.{reach_one, halt_one, reach_trans, reach_halt}
 use Rattle.ib_meaning.proofs.Simulation.{Together, Answers, answered, simulates, simulates_within}
 use Rattle.wide_core.specs.declared.code.Loc.{Loc}
-use Rattle.wide_core.specs.declared.code.WideAct.{WideAct}
-use Rattle.wide_core.specs.declared.code.WideAct.TheVariants.{Const, Add, Sub, Mul, Div, PutNumber, Spill, Reload, Return}
 use Rattle.wide_core.specs.declared.code.WideOp.{WideOp}
 use Rattle.wide_core.specs.declared.code.RawCode.{RawCode}
-use Rattle.wide_core.specs.Operation.{target}
-use Rattle.wide_core.specs.Places.{put, same_loc}
-use Rattle.wide_core.specs.Cycle.{Timed, behind_word, by_cycles, latency, Times, touched, any_late, set_time, times_after}
-use Rattle.wide_core.specs.Meaning.{Running, word_step, word_start, word_meaning, first_ops, late, times, wide_step, wide_start, wide_meaning}
+use Rattle.machine_desc.specs.declared.machine.OpClass.{OpClass}
+use Rattle.wide_core.specs.Classes.{class_of}
+use Rattle.wide_core.specs.Operation.{target, To, Into}
+use Rattle.wide_core.specs.Places.{put, put_if, same_loc}
+use Rattle.wide_core.specs.Cycle.{Timed, behind_word, by_cycles, Times, touched, any_late, times_after}
+use Rattle.wide_core.specs.Word.{Outcome, Through, Gone, Left, Stopped}
+use Rattle.wide_core.specs.Meaning.{Running, Waiting, Clock, resumed, clock_after, word_outcome, word_step, word_start, word_meaning, first_ops, late, times, wide_step, wide_start, wide_meaning}
 
 -- of any machine by words: nothing is late once all times are at most now, and all stay at most now + 16
 module _ {W T : Type 0} (step : Machine W) (late : W → T → ℕ → Bool) (times : W → T → ℕ → List ℕ → T) (IsBy : ℕ → T → Type 0)
@@ -80,10 +81,11 @@ module _ {W T : Type 0} (step : Machine W) (late : W → T → ℕ → Bool) (ti
   unfolding Fits
   timed_within w c r = simulates_within step cycles (Fits 15) Alongside together 16 (λ x f. f) w c r
 
--- ---- registers and slots: both laws hold
+-- ---- registers and slots of all calls: both laws hold
 
-AllBy : ℕ → Times → Type 0
-AllBy b ready = (loc : Loc) → ready loc ≤ b
+pub record AllBy (b : ℕ) (clock : Clock) : Type 0 where
+  pub top : (loc : Loc) → clock.top loc ≤ b
+  pub waiting : (i : ℕ) (loc : Loc) → get_or clock.waiting i (λ other. 0) loc ≤ b
 
 not_late : (a b : ℕ) → b ≤ a → nat_lt a b ≡ false
 not_late a b h = grind (arith, nat_tests)
@@ -105,45 +107,57 @@ put_by loc other n b ready h g = by_one (same_loc other loc) refl
     by_one true e = rw e h
     by_one false e = rw e g
 
-set_by : (to : Option Loc) (n b : ℕ) (ready : Times) → n ≤ b → ((loc : Loc) → ready loc ≤ b) → (other : Loc) → set_time to n ready other ≤ b
-set_by None n b ready h g other = g other
-set_by (Some loc) n b ready h g other = put_by loc other n b ready h (g other)
+put_if_by : (to : Option Loc) (n b : ℕ) (ready : Times) → n ≤ b → ((loc : Loc) → ready loc ≤ b) → (other : Loc) → put_if to n ready other ≤ b
+put_if_by None n b ready h g other = g other
+put_if_by (Some loc) n b ready h g other = put_by loc other n b ready h (g other)
 
-latency_few : (act : WideAct) → latency act ≤ 16
-latency_few (Const to value) = omega arith
-latency_few (Add size to a b) = omega arith
-latency_few (Sub size to a b) = omega arith
-latency_few (Mul size to a b) = omega arith
-latency_few (Div size to a b) = omega arith
-latency_few (PutNumber a) = omega arith
-latency_few (Spill to a) = omega arith
-latency_few (Reload to a) = omega arith
-latency_few (Return a) = omega arith
+-- behind a word everything is ready within 16 cycles of its own
+module _ (latency : OpClass → ℕ) (few : (class : OpClass) → latency class ≤ 16) where
+  ops_soon : (ops : List WideOp) (now : ℕ) (ready : Times) → ((loc : Loc) → ready loc ≤ now + 16) → (other : Loc) → times_after latency now ops ready other ≤ now + 16
+  ops_soon [] now ready h other = h other
+  ops_soon (op ∷ ops) now ready h other =
+      ops_soon ops now (put_if (target op.act) (now + latency (class_of op.act)) ready)
+      (put_if_by (target op.act) (now + latency (class_of op.act)) (now + 16) ready (let g = few (class_of op.act) in omega arith) h) other
 
-ops_soon : (ops : List WideOp) (now : ℕ) (ready : Times) → ((loc : Loc) → ready loc ≤ now + 16) → (other : Loc) → times_after now ops ready other ≤ now + 16
-ops_soon [] now ready h other = h other
-ops_soon (op ∷ ops) now ready h other =
-    ops_soon ops now (set_time (target op.act) (now + latency op.act) ready)
-    (set_by (target op.act) (now + latency op.act) (now + 16) ready (let g = latency_few op.act in omega arith) h) other
+resumed_by : (top : Times) (more : List Times) (waiting : List Waiting) (soon b : ℕ) → soon ≤ b → AllBy b (record { top = top; waiting = more }) → AllBy b (resumed top more waiting soon)
+resumed_by top [] waiting soon b le h = record { top = h.top; waiting = λ i loc. omega arith }
+resumed_by top (times ∷ more) [] soon b le h = record { top = h.waiting 0; waiting = λ i. h.waiting (suc i) }
+resumed_by top (times ∷ more) (w ∷ waiting) soon b le h =
+    record { top = put_if_by w.result soon b times le (h.waiting 0); waiting = λ i. h.waiting (suc i) }
 
-in_time : (s : Running) (ready : Times) (b now : ℕ) → AllBy b ready → b ≤ now → late s ready now ≡ false
-unfolding AllBy
-in_time s ready b now h le = ops_in_time ready b now (first_ops s.rest) h le
+pushed_by : (top : Times) (more : List Times) (b : ℕ) → AllBy b (record { top = top; waiting = more }) → (i : ℕ) (loc : Loc) → get_or (top ∷ more) i (λ other. 0) loc ≤ b
+pushed_by top more b h zero loc = h.top loc
+pushed_by top more b h (suc i) loc = h.waiting i loc
 
-soon : (s : Running) (ready : Times) (b now : ℕ) (left : List ℕ) → AllBy b ready → b ≤ now + 16 → AllBy (now + 16) (times s ready now left)
-unfolding AllBy
-soon s ready b now left h le = ops_soon (first_ops s.rest) now ready (λ loc. let g = h loc in omega arith)
+clock_by : (outcome : Outcome) (top : Times) (more : List Times) (waiting : List Waiting) (soon b : ℕ) → soon ≤ b → AllBy b (record { top = top; waiting = more }) → AllBy b (clock_after outcome top more waiting soon)
+clock_by (Through s) top more waiting soon b le h = h
+clock_by (Gone (To at) s) top more waiting soon b le h = h
+clock_by (Gone (Into func next result args) s) top more waiting soon b le h = record { top = λ loc. omega arith; waiting = pushed_by top more b h }
+clock_by (Left z s) top more waiting soon b le h = resumed_by top more waiting soon b le h
+clock_by (Stopped number kind s) top more waiting soon b le h = h
 
--- the machine by cycles does what the machine by words does
-pub cycles_agree : (code : RawCode) → Agrees (word_meaning code) (wide_meaning code)
-unfolding word_meaning wide_meaning wide_step wide_start AllBy
-cycles_agree code =
-    timed_agrees (word_step code) late times AllBy in_time soon (word_start code) (wide_start code)
-    (With (word_start code) (λ loc. 0) 0 (λ loc. omega arith))
+in_time : (r : Running) (clock : Clock) (b now : ℕ) → AllBy b clock → b ≤ now → late r clock now ≡ false
+in_time r clock b now h le = ops_in_time clock.top b now (first_ops r.call.rest) h.top le
 
--- with at most 16 cycles for each word
-pub cycles_within : (code : RawCode) → Within (λ n. 16 * n) (word_meaning code) (wide_meaning code)
-unfolding word_meaning wide_meaning wide_step wide_start AllBy
-cycles_within code =
-    timed_within (word_step code) late times AllBy in_time soon (word_start code) (wide_start code)
-    (With (word_start code) (λ loc. 0) 0 (λ loc. omega arith))
+module _ (latency : OpClass → ℕ) (few : (class : OpClass) → latency class ≤ 16) (code : RawCode) where
+  soon : (r : Running) (clock : Clock) (b now : ℕ) (left : List ℕ) → AllBy b clock → b ≤ now + 16 → AllBy (now + 16) (times latency code r clock now left)
+  soon r clock b now left h le =
+      clock_by (word_outcome code r (first_ops r.call.rest) left) (times_after latency now (first_ops r.call.rest) clock.top) clock.waiting r.waiting (suc now) (now + 16) (omega arith)
+      (record {
+        top = ops_soon latency few (first_ops r.call.rest) now clock.top (λ loc. let g = h.top loc in omega arith);
+        waiting = λ i loc. let g = h.waiting i loc in omega arith;
+      })
+
+  -- the machine by cycles does what the machine by words does
+  pub cycles_agree : Agrees (word_meaning code) (wide_meaning latency code)
+  unfolding word_meaning wide_meaning wide_step wide_start
+  cycles_agree =
+      timed_agrees (word_step code) late (times latency code) AllBy in_time soon (word_start code) (wide_start latency code)
+      (With (word_start code) (record { top = λ loc. 0; waiting = [] }) 0 (record { top = λ loc. omega arith; waiting = λ i loc. omega arith }))
+
+  -- with at most 16 cycles for each word
+  pub cycles_within : Within (λ n. 16 * n) (word_meaning code) (wide_meaning latency code)
+  unfolding word_meaning wide_meaning wide_step wide_start
+  cycles_within =
+      timed_within (word_step code) late (times latency code) AllBy in_time soon (word_start code) (wide_start latency code)
+      (With (word_start code) (record { top = λ loc. 0; waiting = [] }) 0 (record { top = λ loc. omega arith; waiting = λ i loc. omega arith }))

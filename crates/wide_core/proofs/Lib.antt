@@ -1,3 +1,5 @@
 pub mod Both
 pub mod Cycles
-pub mod Parts
+pub mod Kept
+pub mod Lists
+pub mod Scans

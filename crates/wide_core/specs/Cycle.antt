@@ -2,12 +2,13 @@
 use Rattle.std.specs.Prelude.{ℕ, suc, ◌+◌, Bool, true, false, nat_lt, List, [], ◌∷◌, ◌++◌, Option, Some, None}
 use Rattle.std.specs.List.{list_any}
 use Rattle.ib_meaning.specs.Machine.{Machine, Step, Goes, Stops}
+use Rattle.machine_desc.specs.declared.machine.OpClass.{OpClass}
 use Rattle.wide_core.specs.declared.code.Loc.{Loc}
 use Rattle.wide_core.specs.declared.code.WideAct.{WideAct}
-use Rattle.wide_core.specs.declared.code.WideAct.TheVariants.{Mul, Div, Spill, Reload}
 use Rattle.wide_core.specs.declared.code.WideOp.{WideOp}
+use Rattle.wide_core.specs.Classes.{class_of}
 use Rattle.wide_core.specs.Operation.{sources, target}
-use Rattle.wide_core.specs.Places.{put}
+use Rattle.wide_core.specs.Places.{put_if}
 
 -- a state of the machine by words, the times at which things are ready, and the cycle
 pub record Timed (W T : Type 0) : Type 0 where
@@ -34,14 +35,6 @@ module _ {W T : Type 0} (step : Machine W) (late : W → T → ℕ → Bool) (ti
 
 -- ---- times of registers and slots
 
--- how many cycles it takes until what the operation writes is ready
-abbrev pub latency : WideAct → ℕ
-latency (Mul size to a b) = 4
-latency (Div size to a b) = 4
-latency (Spill to a) = 2
-latency (Reload to a) = 2
-latency act = 1
-
 abbrev pub Times : Type 0
 Times = Loc → ℕ
 
@@ -59,11 +52,8 @@ is_late ready now op = list_any (λ loc. nat_lt now (ready loc)) (touched op.act
 abbrev pub any_late : Times → ℕ → List WideOp → Bool
 any_late ready now ops = list_any (is_late ready now) ops
 
-abbrev pub set_time : Option Loc → ℕ → Times → Times
-set_time None time ready = ready
-set_time (Some to) time ready = put to time ready
-
--- what each operation writes is ready at now plus its latency
-abbrev pub times_after : ℕ → List WideOp → Times → Times
-times_after now [] ready = ready
-times_after now (op ∷ ops) ready = times_after now ops (set_time (target op.act) (now + latency op.act) ready)
+-- what each operation writes is ready at now plus its class's latency
+abbrev pub times_after : (OpClass → ℕ) → ℕ → List WideOp → Times → Times
+times_after latency now [] ready = ready
+times_after latency now (op ∷ ops) ready =
+    times_after latency now ops (put_if (target op.act) (now + latency (class_of op.act)) ready)

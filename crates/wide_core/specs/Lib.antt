@@ -1,7 +1,11 @@
+pub mod Bytes
+pub mod Classes
 pub mod Cycle
 pub mod Meaning
 pub mod Operation
 pub mod Parts
 pub mod Places
+pub mod Refusals
 pub mod Tagged
+pub mod Valid
 pub mod Word

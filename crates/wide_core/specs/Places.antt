@@ -1,5 +1,5 @@
 -- Registers and slots, and functions from them.
-use Rattle.std.specs.Prelude.{Bool, false, ◌==◌, if◌then◌else◌}
+use Rattle.std.specs.Prelude.{Bool, false, ◌==◌, Option, Some, None, if◌then◌else◌}
 use Rattle.wide_core.specs.declared.code.Loc.{Loc}
 use Rattle.wide_core.specs.declared.code.Loc.TheVariants.{Reg, Slot}
 
@@ -12,3 +12,7 @@ same_loc (Slot a) (Slot b) = a == b
 -- f, but for v at the place
 abbrev pub put : {A : Type 0} → Loc → A → (Loc → A) → Loc → A
 put loc v f other = if same_loc other loc then v else f other
+
+abbrev pub put_if : {A : Type 0} → Option Loc → A → (Loc → A) → Loc → A
+put_if None v f = f
+put_if (Some loc) v f = put loc v f

@@ -1,7 +1,7 @@
 ghost use Rattle.std.specs.Prelude.{◌≡◌, [], ◌∷◌, false, IfOk};
-ghost use Rattle.wide_core.specs.Parts.{main_code};
 
-use ib_base::{FaultKind, Place};
+use ib_act::Act;
+use ib_base::{FaultKind, Place, Text};
 use sqlite_items::Items;
 use std::alloc::{AllocError, Global};
 
@@ -13,39 +13,57 @@ pub enum Tagged {
 }
 
 /// A register or slot of a call.
-#[derive(Clone, Copy, PartialEq, Eq, Debug)]
+#[derive(Clone, Copy, PartialEq, Eq, Hash, Debug)]
 pub enum Loc {
     Reg(u32),
     Slot(u32),
 }
 
-/// How many bytes arithmetic wraps to.
-#[derive(Clone, Copy, PartialEq, Eq, Debug)]
-pub enum Size {
-    Four,
-    Eight,
-}
-
-/// What an operation does. A number names a register, but for the slot that `Spill` writes and `Reload` reads.
-#[derive(Clone, Copy)]
+/// What an operation does. `from` names a register, but for the slot that `Reload` reads; `to` of a control operation
+/// is a word of its function.
+#[derive(Drop)]
 pub enum WideAct {
-    Const { to: u32, value: i64 },
-    Add { size: Size, to: u32, a: u32, b: u32 },
-    Sub { size: Size, to: u32, a: u32, b: u32 },
-    Mul { size: Size, to: u32, a: u32, b: u32 },
-    Div { size: Size, to: u32, a: u32, b: u32 },
-    /// Writes the number in decimal.
-    PutNumber { a: u32 },
+    Do(Act),
     /// Copies a register, number or mark, to a slot.
-    Spill { to: u32, a: u32 },
+    Spill {
+        to: u32,
+        from: u32,
+    },
     /// Copies a slot, number or mark, to a register.
-    Reload { to: u32, a: u32 },
+    Reload {
+        to: u32,
+        from: u32,
+    },
+    /// Reports a mark, and does nothing else.
+    Check {
+        from: u32,
+    },
+    Jump {
+        to: u32,
+    },
+    /// Goes to a word if the register is not 0.
+    Branch {
+        from: u32,
+        to: u32,
+    },
+    /// Goes to a word if the register is 0.
+    BranchZero {
+        from: u32,
+        to: u32,
+    },
+    /// Calls a function by its number, and goes on at the word `next` with the result in its place.
+    Call {
+        result: Option<Loc>,
+        func: u32,
+        next: u32,
+        args: Items<u32>,
+    },
     /// Returns a register's number, or 0.
     Return(Option<u32>),
 }
 
 /// An operation with its number in the whole code, its statement's place, and whether its fault is kept as a mark.
-#[derive(Clone, Copy)]
+#[derive(Drop)]
 pub struct WideOp {
     pub number: u32,
     pub home: Place,
@@ -54,6 +72,7 @@ pub struct WideOp {
 }
 
 impl WideOp {
+    /// An operation that reports its fault.
     pub fn unflagged(number: u32, home: Place, act: WideAct) -> WideOp
         ensures { result ≡ record { number = number; home = home; flagged = false; act = act } }
     {
@@ -73,6 +92,7 @@ pub struct Word {
 }
 
 impl Word {
+    /// A word with one operation.
     pub fn of_one(alloc: Global, op: WideOp) -> Result<Word, AllocError>
         ensures { IfOk result (λ word. word ≡ record { ops = op ∷ [] }) }
     {
@@ -85,7 +105,7 @@ impl Word {
 /// A function: where it takes its parameters, its frame's bytes, its slots and its words.
 #[derive(Drop)]
 pub struct WideFunc {
-    pub name: Items<u8>,
+    pub name: Text,
     pub params: Items<Loc>,
     pub frame: u32,
     pub slots: u32,
@@ -97,25 +117,4 @@ pub struct WideFunc {
 pub struct RawCode {
     pub image: Items<u8>,
     pub funcs: Items<WideFunc>,
-}
-
-impl RawCode {
-    /// Code with an empty image and one function, `main`.
-    pub fn of_main(alloc: Global, slots: u32, words: Items<Word>) -> Result<RawCode, AllocError>
-        ensures { IfOk result (λ code. code ≡ main_code slots words) }
-    {
-        let main = WideFunc {
-            name: Items::from_slice(alloc, b"main")?,
-            params: Items::new(alloc),
-            frame: 0,
-            slots,
-            words,
-        };
-        let mut funcs = Items::new(alloc);
-        funcs.push(main)?;
-        Ok(RawCode {
-            image: Items::new(alloc),
-            funcs,
-        })
-    }
 }

@@ -1,10 +1,20 @@
 //! The machine of long words: its code, the tag rule, and what one word and one cycle do.
 #![tactic(auto)]
 
+mod act;
 mod code;
-mod effect;
+mod lines;
+mod rule;
+mod rules;
+mod seen;
 mod tags;
+#[cfg(test)]
+mod tests;
+mod valid;
+mod valid_funcs;
+mod wide_code;
 
-pub use code::{Loc, RawCode, Size, Tagged, WideAct, WideFunc, WideOp, Word};
-pub use effect::Effect;
-pub use tags::{Done, evaluate};
+pub use code::{Loc, RawCode, Tagged, WideAct, WideFunc, WideOp, Word};
+pub use rule::{BrokenRule, Rule};
+pub use tags::{Done, evaluate, first_mark};
+pub use wide_code::{ValidErr, WideCode};

@@ -45,7 +45,8 @@ fn least_mark(sources: &[Tagged]) -> Tagged
     least
 }
 
-fn first_mark(first: Tagged, second: Tagged) -> Tagged
+/// The mark that comes first of two.
+pub fn first_mark(first: Tagged, second: Tagged) -> Tagged
     ensures { result ≡ first_mark first second }
 {
     match (first, second) {
@@ -77,6 +78,7 @@ fn comes_before(number: u32, kind: FaultKind, other: u32, other_kind: FaultKind)
 mod tests {
     use super::*;
     use crate::code::WideAct;
+    use ib_act::Act;
     use ib_base::Place;
 
     const FIRST: Tagged = Tagged::Mark {
@@ -95,11 +97,11 @@ mod tests {
     };
 
     fn operation(flagged: bool) -> WideOp {
-        let home = Place { line: 1, col: 1 };
-        let act = WideAct::PutNumber { a: 0 };
         WideOp {
+            number: 9,
+            home: Place { line: 1, col: 1 },
             flagged,
-            ..WideOp::unflagged(9, home, act)
+            act: WideAct::Do(Act::PutNumber { from: 0 }),
         }
     }
 

@@ -1,74 +1,118 @@
--- The ways that a cycle of the simulator goes, from its fields.
-use Rattle.std.proofs.Common.{◌≡◌, ℕ, pos, ◌+◌, ◌<◌, ◌≤◌, Bool, true, false, List, ◌∷◌, length, get_or, drop, refl, sym, ap, ◌∙◌, subst}
-use Rattle.std.proofs.lemmas.List.{at_drop_more, at_drop_all}
-use Rattle.ib_base.specs.World.{World, printed, PrintsPart}
+-- The ways that a cycle of the simulator goes.
+use Rattle.std.proofs.Common.{◌≡◌, ℕ, suc, ◌+◌, ◌≤◌, pos, true, false, List, length, slice_get, Some, refl, sym, ap, ◌∙◌, subst, arith}
+use Rattle.std.specs.List.{list_all}
+use Rattle.ib_base.specs.World.{World}
+use Rattle.ib_run.specs.OverHost.{OverHost}
+use Rattle.machine_desc.specs.declared.machine.OpClass.{OpClass}
 use Rattle.wide_core.specs.declared.code.Loc.{Loc}
 use Rattle.wide_core.specs.declared.code.RawCode.{RawCode}
 use Rattle.wide_core.specs.declared.code.Tagged.{Tagged}
 use Rattle.wide_core.specs.declared.code.Tagged.TheVariants.{Clear}
+use Rattle.wide_core.specs.declared.code.WideFunc.{WideFunc}
 use Rattle.wide_core.specs.declared.code.WideOp.{WideOp}
-use Rattle.wide_core.specs.declared.code.Word.{Word}
 use Rattle.wide_core.specs.Cycle.{any_late, times_after}
-use Rattle.wide_core.specs.Parts.{main_words}
+use Rattle.wide_core.specs.Valid.{Limits, is_within, scope_of}
 use Rattle.wide_core.specs.Word.{effects}
-use Rattle.wide_sim.specs.declared.outcome.Stepped.{Stepped}
-use Rattle.wide_sim.specs.declared.outcome.Stepped.TheVariants.{Going}
+use Rattle.wide_core.proofs.Kept.{func_kept}
+use Rattle.wide_sim.specs.declared.frame.Frame.{Frame}
+use Rattle.wide_sim.specs.declared.frame.Suspended.{Suspended}
+use Rattle.wide_sim.specs.declared.next.Next.{Next}
+use Rattle.wide_sim.specs.declared.planned.Planned.TheVariants.{Idle}
 use Rattle.wide_sim.specs.declared.store.Store.{Store}
-use Rattle.wide_sim.specs.declared.turn.Turn.{Turn}
-use Rattle.wide_sim.specs.declared.turn.Turn.TheVariants.{Next}
-use Rattle.wide_sim.specs.Effects.{turn_after, places_after, text_after}
-use Rattle.wide_sim.specs.Simulation.{Simulation, stepped_by, Leads, BreaksOff}
+use Rattle.wide_sim.specs.Advance.{CanAdvance, Standing, advanced}
+use Rattle.wide_sim.specs.Cycles.{Breaks, Does, scope_at}
+use Rattle.wide_sim.specs.EffectFits.{effect_fits}
+use Rattle.wide_sim.specs.Effects.{turn_after}
+use Rattle.wide_sim.specs.Fits.{op_fits}
+use Rattle.wide_sim.specs.Frames.{ops_at}
+use Rattle.wide_sim.specs.Planned.{effect_of}
+use Rattle.wide_sim.specs.Simulation.{BreaksOff, Cycles, IsSound, going_at, sim_of}
+use Rattle.wide_sim.specs.Site.{Site, around, room_at, site_of}
 use Rattle.wide_sim.specs.Store.{held}
-use Rattle.wide_sim.proofs.Steps.{lost_leads, waits_leads, word_leads, breaks_off}
+use Rattle.wide_sim.proofs.Advances.{broken_off, done, waited}
+use Rattle.wide_sim.proofs.Sound.{CallsFit, HasWord, can_advance, effects_within, few_ops, first_takes, goes_well, has_word, ops_fit, turn_fits, turn_leaves}
 
-abbrev pub sim_of : RawCode → ℕ → Store Tagged → Store ℕ → ℕ → Stepped → Simulation
-sim_of code at values ready cycle stepped =
-    record { code = code; at = at; values = values; ready = ready; cycle = cycle; stepped = stepped }
+module _ (latency : OpClass → ℕ) (limits : Limits) (code : RawCode) (call : Frame) (callers : List Suspended) (memory : List ℕ) (cycle room : ℕ)
+    (sound : IsSound limits code call callers room) (ops : List WideOp) (ops_is : ops ≡ ops_at code call) where
+  word : HasWord code call sound.call_fits.func ops
+  word = has_word limits.regs code call sound.call_fits ops ops_is
 
-module _ (code : RawCode) (at : ℕ) (values : Store Tagged) (ready : Store ℕ) (cycle : ℕ) (stepped : Stepped) (now : Simulation) (words : List Word) (before : World)
-    (is : sim_of code at values ready cycle stepped ≡ now) (now_going : now.stepped ≡ Going) (main : words ≡ main_words code) where
-  going : stepped ≡ Going
-  going = ap (λ (s : Simulation). s.stepped) is ∙ now_going
+  same_ops : ops ≡ word.word.ops
+  same_ops = word.ops_is
 
-  pub lost_case : length words ≤ at → Leads 1 now (sim_of code at values ready (cycle + 1) stepped) before before
-  lost_case le =
-      subst (λ s. Leads 1 s (sim_of code at values ready (cycle + 1) stepped) before before) is
-      (lost_leads (sim_of code at values ready cycle stepped) (sim_of code at values ready (cycle + 1) stepped) before before going refl refl
-      (ap (λ ws. drop at ws) (sym main) ∙ at_drop_all (λ l. l) words at le) (refl, refl, refl, refl) refl)
+  soon_is : cycle + 1 ≡ suc cycle
+  soon_is = omega arith
 
-  module _ (word : Word) (ops : List WideOp) (lt : at < length words) (word_is : word ≡ get_or words at word) (ops_is : ops ≡ (get_or words at word).ops) where
-    at_hand : drop at (main_words code) ≡ word ∷ drop (at + 1) words
-    at_hand =
-        ap (λ ws. drop at ws) (sym main) ∙ at_drop_more (λ l. l) words at word lt ∙ ap (λ w. w ∷ drop (at + 1) words) (sym word_is)
+  pub waits_case : (w : World) → any_late (held 0 call.ready) cycle ops ≡ true → OverHost (Cycles latency (going_at code call callers memory cycle) (going_at code call callers memory (cycle + 1))) w w
+  waits_case w late =
+      waited latency limits.regs code call callers memory cycle sound.call_fits.func sound.call_fits.there word.word word.at_hand (cycle + 1) w soon_is
+      (ap (λ os. any_late (held 0 call.ready) cycle os) (sym same_ops) ∙ late)
 
-    ops_of : ops ≡ word.ops
-    ops_of = ops_is ∙ ap (λ (w : Word). w.ops) (sym word_is)
+  -- what a word needs
+  pub fit_values : list_all (op_fits (length call.values.regs) (length call.values.slots)) ops ≡ true
+  fit_values = ops_fit limits code sound.valid call sound.call_fits word.word ops word.at same_ops (length call.values.regs) (length call.values.slots) sound.call_fits.regs_is sound.call_fits.slots_is
 
-    in_word : (b : Bool) → b ≡ any_late (held 0 ready) cycle ops → any_late (held 0 ready) cycle word.ops ≡ b
-    in_word b h = ap (λ os. any_late (held 0 ready) cycle os) (sym ops_of) ∙ sym h
+  pub fit_ready : list_all (op_fits (length call.ready.regs) (length call.ready.slots)) ops ≡ true
+  fit_ready = ops_fit limits code sound.valid call sound.call_fits word.word ops word.at same_ops (length call.ready.regs) (length call.ready.slots) sound.call_fits.ready_regs sound.call_fits.ready_slots
 
-    pub waits_case : true ≡ any_late (held 0 ready) cycle ops → Leads 1 now (sim_of code at values ready (cycle + 1) stepped) before before
-    waits_case late =
-        subst (λ s. Leads 1 s (sim_of code at values ready (cycle + 1) stepped) before before) is
-        (waits_leads (sim_of code at values ready cycle stepped) (sim_of code at values ready (cycle + 1) stepped) before before going refl refl
-        word (drop (at + 1) words) at_hand (in_word true late) (refl, refl, refl, refl) refl)
+  pub has_plan : limits.width ≤ 64 → length ops ≤ room
+  has_plan most =
+      let few : length ops ≤ limits.width = few_ops limits code sound.valid call sound.call_fits word.word ops word.at same_ops in
+      let plan : 64 ≤ room = sound.plan_room in
+      omega arith
 
-    abbrev places : Loc → Tagged
-    places = held (Clear (pos 0)) values
+  abbrev here : Site
+  here = site_of code call callers
 
-    module _ (in_time : false ≡ any_late (held 0 ready) cycle ops) where
-      pub word_case : (turn : Turn) (new_values : Store Tagged) (new_ready : Store ℕ) (new_stepped : Stepped) (after : World) → turn ≡ turn_after Next (effects ops places) → held (Clear (pos 0)) new_values ≡ places_after Next (effects ops places) places → held 0 new_ready ≡ times_after cycle ops (held 0 ready) → new_stepped ≡ stepped_by code turn → after ≡ printed before (text_after Next (effects ops places))
-          → Leads 1 now (sim_of code (at + 1) new_values new_ready (cycle + 1) new_stepped) before after
-      word_case turn new_values new_ready new_stepped after is_turn is_values is_ready is_stepped world =
-          subst (λ s. Leads 1 s (sim_of code (at + 1) new_values new_ready (cycle + 1) new_stepped) before after) is
-          (word_leads (sim_of code at values ready cycle stepped) (sim_of code (at + 1) new_values new_ready (cycle + 1) new_stepped) before after going refl refl
-          word (drop (at + 1) words) at_hand (in_word false in_time) turn
-          (is_turn ∙ ap (λ os. turn_after Next (effects os places)) ops_of) (ap (λ ws. drop (at + 1) ws) (sym main))
-          (is_values ∙ ap (λ os. places_after Next (effects os places) places) ops_of) (is_ready ∙ ap (λ os. times_after cycle os (held 0 ready)) ops_of) is_stepped
-          (world ∙ ap (λ os. printed before (text_after Next (effects os places))) ops_of))
+  abbrev places : Loc → Tagged
+  places = held (Clear (pos 0)) call.values
 
-      pub broken_case : (after : World) → PrintsPart before after (text_after Next (effects ops places)) → BreaksOff now before after
-      broken_case after part =
-          subst (λ s. BreaksOff s before after) is
-          (breaks_off (sim_of code at values ready cycle stepped) before after word (drop (at + 1) words) at_hand going (in_word false in_time)
-          (subst (λ os. PrintsPart before after (text_after Next (effects os places))) ops_of part))
+  module _ (site : Site) (site_is : site ≡ here) where
+    pub within_case : (words : ℕ) × (list_all (effect_fits (scope_at (length call.values.regs) (length call.values.slots) words site) (room_at site)) (effects (around site memory) places ops) ≡ true)
+    within_case = (
+      length sound.call_fits.func.words,
+      effects_within limits code sound.valid call sound.call_fits word.word ops word.at same_ops site (ap (λ (s : Site). s.funcs) site_is) memory places (length call.values.regs) (length call.values.slots) sound.call_fits.regs_is sound.call_fits.slots_is,
+    )
+
+    pub params_case : (f : ℕ) (func : WideFunc) → slice_get site.funcs f ≡ Some func → list_all (is_within (length call.values.regs) func.slots) func.params ≡ true
+    params_case f func at =
+        ap (λ n. list_all (is_within n func.slots) func.params) sound.call_fits.regs_is
+        ∙ (func_kept limits code sound.valid f func (ap (λ (s : Site). slice_get s.funcs f) (sym site_is) ∙ at)).params
+
+    module _ (in_time : any_late (held 0 call.ready) cycle ops ≡ false) where
+      word_in_time : any_late (held 0 call.ready) cycle word.word.ops ≡ false
+      word_in_time = ap (λ os. any_late (held 0 call.ready) cycle os) (sym same_ops) ∙ in_time
+
+      pub broken_case : (before behind : World) → OverHost (Breaks site ops places memory) before behind → OverHost (BreaksOff latency (going_at code call callers memory cycle)) before behind
+      broken_case before behind some =
+          broken_off latency limits.regs code call callers memory cycle sound.call_fits.func sound.call_fits.there word.word word.at_hand before behind word_in_time
+          (subst (λ os. OverHost (Breaks here os places memory) before behind) same_ops (subst (λ s. OverHost (Breaks s ops places memory) before behind) site_is some))
+
+      module _ (values : Store Tagged) (memory_behind : List ℕ) (next : Next) (before behind : World) (does : Does (length call.values.regs) call.at site ops places (held (Clear (pos 0)) values) memory memory_behind before behind next) where
+        does_here : Does limits.regs call.at here ops places (held (Clear (pos 0)) values) memory memory_behind before behind next
+        does_here =
+            subst (λ s. Does limits.regs call.at s ops places (held (Clear (pos 0)) values) memory memory_behind before behind next) site_is
+            (subst (λ n. Does n call.at site ops places (held (Clear (pos 0)) values) memory memory_behind before behind next) sound.call_fits.regs_is does)
+
+        fits_turn : effect_fits (scope_of limits code.funcs sound.call_fits.func) (room_at here) (effect_of places (turn_after Idle does_here.plan)) ≡ true
+        fits_turn = turn_fits limits code sound.valid call sound.call_fits word.word ops word.at same_ops here refl memory places does_here.plan does_here.planned
+
+        pub can_case : CanAdvance code callers next
+        can_case =
+            can_advance limits code sound.valid call sound.call_fits word.word ops word.at same_ops callers sound.callers_fit places (turn_after Idle does_here.plan) next does_here.goes fits_turn
+
+        module _ (ready : Store ℕ) (times : held 0 ready ≡ times_after latency cycle ops (held 0 call.ready)) (new : Standing)
+            (new_is : new ≡ advanced code (cycle + 1) next (record call { values = values; ready = ready }) callers memory_behind) where
+          pub done_case : OverHost (Cycles latency (going_at code call callers memory cycle) (sim_of code new (cycle + 1))) before behind
+          done_case =
+              subst (λ (n : Standing). OverHost (Cycles latency (going_at code call callers memory cycle) (sim_of code n (cycle + 1))) before behind) (sym new_is)
+              (done latency limits.regs code call callers memory cycle sound.call_fits.func sound.call_fits.there word.word word.at_hand values ready memory_behind (cycle + 1) soon_is
+              (times ∙ ap (λ os. times_after latency cycle os (held 0 call.ready)) same_ops) next before behind word_in_time (first_takes limits.regs code callers sound.callers_fit)
+              (subst (λ os. Does limits.regs call.at here os places (held (Clear (pos 0)) values) memory memory_behind before behind next) same_ops does_here))
+
+          pub sound_case : length values.regs ≡ length call.values.regs → length values.slots ≡ length call.values.slots → length ready.regs ≡ length call.ready.regs → length ready.slots ≡ length call.ready.slots → (room_behind : ℕ) → room_behind ≡ room → IsSound limits code new.call new.callers room_behind
+          sound_case v_regs v_slots r_regs r_slots room_behind same_room =
+              let good = goes_well limits code sound.valid call sound.call_fits word.word ops word.at same_ops callers sound.callers_fit values ready v_regs v_slots r_regs r_slots places (cycle + 1) memory_behind (turn_after Idle does_here.plan) next does_here.goes fits_turn
+              (turn_leaves limits code sound.valid call sound.call_fits word.word ops word.at same_ops here refl memory places does_here.plan does_here.planned) in
+              let fit = subst (λ (n : Standing). CallsFit limits.regs code n.call n.callers) (sym new_is) good in
+              record { valid = sound.valid; call_fits = fit.call_fits; callers_fit = fit.callers_fit; plan_room = subst (λ n. 64 ≤ n) (sym same_room) sound.plan_room }

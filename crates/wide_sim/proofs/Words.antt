@@ -1,112 +1,62 @@
--- A word comes to what its effects come to one by one, and its effects stay within the places that it touches.
-use Rattle.std.proofs.Common.{◌≡◌, ℕ, ℤ, true, List, [], ◌∷◌, ◌++◌, map, refl, sym, ap, ◌∙◌, append_assoc}
+-- A word comes to what its planned effects come to, one by one.
+use Rattle.std.proofs.Common.{◌≡◌, ℕ, Bool, true, List, [], ◌∷◌, ◌++◌, map, refl, sym, ap, ◌∙◌, append_assoc}
 use Rattle.std.proofs.lemmas.List.{append-nil}
 use Rattle.std.specs.Fmt.{signed_decimal}
-use Rattle.std.specs.List.{list_all}
-use Rattle.ib_meaning.specs.declared.fault.FaultKind.{FaultKind}
 use Rattle.wide_core.specs.declared.code.Loc.{Loc}
+use Rattle.wide_core.specs.declared.code.Loc.TheVariants.{Reg}
 use Rattle.wide_core.specs.declared.code.Tagged.{Tagged}
-use Rattle.wide_core.specs.declared.code.WideAct.{WideAct}
-use Rattle.wide_core.specs.declared.code.WideAct.TheVariants.{Const, Add, Sub, Mul, Div, PutNumber, Spill, Reload, Return as ReturnAct}
+use Rattle.wide_core.specs.declared.code.Tagged.TheVariants.{Clear}
 use Rattle.wide_core.specs.declared.code.WideOp.{WideOp}
-use Rattle.wide_core.specs.declared.effect.Effect.{Effect}
-use Rattle.wide_core.specs.declared.effect.Effect.TheVariants.{Write, Print, Leave, Stop}
-use Rattle.wide_core.specs.declared.tags.Done.{Done}
-use Rattle.wide_core.specs.declared.tags.Done.TheVariants.{Value, Marked, Report as ReportDone}
-use Rattle.wide_core.specs.Cycle.{touched}
-use Rattle.wide_core.specs.Operation.{sources, shown, effect_by}
-use Rattle.wide_core.specs.Word.{Flow, Outcome, Through, Left, Stopped, effects, acts, after_word}
-use Rattle.wide_sim.specs.declared.turn.Turn.{Turn}
-use Rattle.wide_sim.specs.declared.turn.Turn.TheVariants.{Next, Return, Report}
-use Rattle.wide_sim.specs.Effects.{turn_after, places_after, text_after, effect_fits}
-use Rattle.wide_sim.specs.Fits.{op_fits}
-use Rattle.wide_sim.specs.Store.{is_within}
-use Rattle.wide_core.proofs.Both.{both_first, both_second}
+use Rattle.wide_core.specs.Places.{put}
+use Rattle.wide_core.specs.Word.{Flow, Through, acts, apply, after_word, effects, byte_from, behind_byte, saved}
+use Rattle.wide_sim.specs.declared.planned.Planned.{Planned}
+use Rattle.wide_sim.specs.declared.planned.Planned.TheVariants.{Idle, Write, Save, Take, PutByte, PutNumber, Jump, Call, Return, Report}
+use Rattle.wide_sim.specs.Effects.{turn_after, before_report, text, heard, left_after, places_after, memory_after}
+use Rattle.wide_sim.specs.Planned.{effect_of}
+use Rattle.wide_sim.specs.Cycles.{finish, flow}
 
-abbrev pub flow : (Loc → Tagged) → (left out : List ℕ) → Flow
-flow places left out = record { places = places; left = left; out = out }
+module _ (places : Loc → Tagged) where
+  abbrev done : List Planned → Flow → Flow
+  done [] s = s
+  done (f ∷ fs) s = done fs (apply (effect_of places f) s)
 
--- what the word comes to where control goes so
-abbrev pub outcome_by : Turn → Flow → Outcome
-outcome_by Next s = Through s
-outcome_by (Return z) s = Left z s
-outcome_by (Report number kind) s = Stopped number kind s
+  acts_are : (fs : List Planned) (turn : Planned) (s : Flow) → acts true (map (effect_of places) fs) (λ t. finish (effect_of places turn) t) s ≡ finish (effect_of places (turn_after turn fs)) (done (before_report fs) s)
+  acts_are [] turn s = refl
+  acts_are (Idle ∷ fs) turn s = acts_are fs turn s
+  acts_are (Write to value ∷ fs) turn s = acts_are fs turn _
+  acts_are (Save width address value ∷ fs) turn s = acts_are fs turn _
+  acts_are (Take to ∷ fs) turn s = acts_are fs turn _
+  acts_are (PutByte byte ∷ fs) turn s = acts_are fs turn _
+  acts_are (PutNumber z ∷ fs) turn s = acts_are fs turn _
+  acts_are (Jump to ∷ fs) turn s = acts_are fs (Jump to) s
+  acts_are (Call result func next args ∷ fs) turn s = acts_are fs (Call result func next args) s
+  acts_are (Return z ∷ fs) turn s = acts_are fs (Return z) s
+  acts_are (Report number kind ∷ fs) turn s = refl
 
--- behind a report nothing is done
-reported_turn : (es : List Effect) (n : ℕ) (k : FaultKind) → turn_after (Report n k) es ≡ Report n k
-reported_turn [] n k = refl
-reported_turn (e ∷ es) n k = reported_turn es n k
+  done_is : (fs : List Planned) (p : Loc → Tagged) (memory left out : List ℕ) → done fs (flow p memory left out) ≡ flow (places_after (heard left fs) p) (memory_after (heard left fs) memory) (left_after fs left) (out ++ text fs)
+  done_is [] p memory left out = ap (λ o. flow p memory left o) (sym (append-nil out))
+  done_is (Idle ∷ fs) p memory left out = done_is fs p memory left out
+  done_is (Write to value ∷ fs) p memory left out = done_is fs (put to value p) memory left out
+  done_is (Save width address value ∷ fs) p memory left out = done_is fs p (saved width address value memory) left out
+  done_is (Take to ∷ fs) p memory left out = done_is fs (put (Reg to) (Clear (byte_from left)) p) memory (behind_byte left) out
+  done_is (PutByte byte ∷ fs) p memory left out =
+      done_is fs p memory left (out ++ byte ∷ []) ∙ ap (λ o. flow (places_after (heard left fs) p) (memory_after (heard left fs) memory) (left_after fs left) o) (append_assoc out (byte ∷ []) (text fs))
+  done_is (PutNumber z ∷ fs) p memory left out =
+      done_is fs p memory left (out ++ signed_decimal z) ∙ ap (λ o. flow (places_after (heard left fs) p) (memory_after (heard left fs) memory) (left_after fs left) o) (append_assoc out (signed_decimal z) (text fs))
+  done_is (Jump to ∷ fs) p memory left out = done_is fs p memory left out
+  done_is (Call result func next args ∷ fs) p memory left out = done_is fs p memory left out
+  done_is (Return z ∷ fs) p memory left out = done_is fs p memory left out
+  done_is (Report number kind ∷ fs) p memory left out = done_is fs p memory left out
 
-reported_places : (es : List Effect) (n : ℕ) (k : FaultKind) (places : Loc → Tagged) → places_after (Report n k) es places ≡ places
-reported_places [] n k places = refl
-reported_places (e ∷ es) n k places = reported_places es n k places
-
-reported_text : (es : List Effect) (n : ℕ) (k : FaultKind) → text_after (Report n k) es ≡ []
-reported_text [] n k = refl
-reported_text (e ∷ es) n k = reported_text es n k
-
-stops : (es : List Effect) (n : ℕ) (k : FaultKind) (places : Loc → Tagged) (left out : List ℕ) → Stopped n k (flow places left out) ≡ outcome_by (turn_after (Report n k) es) (flow (places_after (Report n k) es places) left (out ++ ([] ++ text_after (Report n k) es)))
-stops es n k places left out =
-    rw (reported_turn es n k, reported_places es n k places, reported_text es n k, append-nil) refl
-
--- with control going out of the call so far, and with control going to the next word
-acts_return : (z : ℤ) (es : List Effect) (places : Loc → Tagged) (left out : List ℕ) → acts es (λ s. Left z s) (flow places left out) ≡ outcome_by (turn_after (Return z) es) (flow (places_after (Return z) es places) left (out ++ text_after (Return z) es))
-acts_return z [] places left out = ap (λ o. Left z (flow places left o)) (sym (append-nil out))
-acts_return z (Write to value ∷ es) places left out = acts_return z es _ left out
-acts_return z (Print y ∷ es) places left out =
-    acts_return z es places left (out ++ signed_decimal y)
-    ∙ ap (λ o. outcome_by (turn_after (Return z) es) (flow (places_after (Return z) es places) left o)) (append_assoc out (signed_decimal y) (text_after (Return z) es))
-acts_return z (Leave y ∷ es) places left out = acts_return y es places left out
-acts_return z (Stop n k ∷ es) places left out = stops es n k places left out
-
-acts_next : (es : List Effect) (places : Loc → Tagged) (left out : List ℕ) → acts es (λ s. Through s) (flow places left out) ≡ outcome_by (turn_after Next es) (flow (places_after Next es places) left (out ++ text_after Next es))
-acts_next [] places left out = ap (λ o. Through (flow places left o)) (sym (append-nil out))
-acts_next (Write to value ∷ es) places left out = acts_next es _ left out
-acts_next (Print y ∷ es) places left out =
-    acts_next es places left (out ++ signed_decimal y)
-    ∙ ap (λ o. outcome_by (turn_after Next es) (flow (places_after Next es places) left o)) (append_assoc out (signed_decimal y) (text_after Next es))
-acts_next (Leave y ∷ es) places left out = acts_return y es places left out
-acts_next (Stop n k ∷ es) places left out = stops es n k places left out
-
-pub word_comes : (ops : List WideOp) (places : Loc → Tagged) (left : List ℕ) → after_word ops places left ≡ outcome_by (turn_after Next (effects ops places)) (flow (places_after Next (effects ops places) places) left (text_after Next (effects ops places)))
-word_comes ops places left = acts_next (effects ops places) places left []
-
--- ---- effects stay within
-
-module _ (regs slots : ℕ) where
-  shown_fits : (act : WideAct) (done : Done) → list_all (is_within regs slots) (touched act) ≡ true → effect_fits regs slots (shown act done) ≡ true
-  shown_fits act (ReportDone n k) h = refl
-  shown_fits (Const to value) (Value v) h = both_first _ _ h
-  shown_fits (Add size to a b) (Value v) h = both_first _ _ h
-  shown_fits (Sub size to a b) (Value v) h = both_first _ _ h
-  shown_fits (Mul size to a b) (Value v) h = both_first _ _ h
-  shown_fits (Div size to a b) (Value v) h = both_first _ _ h
-  shown_fits (PutNumber a) (Value v) h = refl
-  shown_fits (Spill to a) (Value v) h = both_first _ _ h
-  shown_fits (Reload to a) (Value v) h = both_first _ _ h
-  shown_fits (ReturnAct a) (Value v) h = refl
-  shown_fits (Const to value) (Marked n k) h = both_first _ _ h
-  shown_fits (Add size to a b) (Marked n k) h = both_first _ _ h
-  shown_fits (Sub size to a b) (Marked n k) h = both_first _ _ h
-  shown_fits (Mul size to a b) (Marked n k) h = both_first _ _ h
-  shown_fits (Div size to a b) (Marked n k) h = both_first _ _ h
-  shown_fits (PutNumber a) (Marked n k) h = refl
-  shown_fits (Spill to a) (Marked n k) h = both_first _ _ h
-  shown_fits (Reload to a) (Marked n k) h = both_first _ _ h
-  shown_fits (ReturnAct a) (Marked n k) h = refl
-
-  by_fits : (act : WideAct) (op : WideOp) (values : List Tagged) → list_all (is_within regs slots) (touched act) ≡ true → effect_fits regs slots (effect_by act op values) ≡ true
-  by_fits (Const to value) op values h = shown_fits (Const to value) _ h
-  by_fits (Add size to a b) op values h = shown_fits (Add size to a b) _ h
-  by_fits (Sub size to a b) op values h = shown_fits (Sub size to a b) _ h
-  by_fits (Mul size to a b) op values h = shown_fits (Mul size to a b) _ h
-  by_fits (Div size to a b) op values h = shown_fits (Div size to a b) _ h
-  by_fits (PutNumber a) op values h = shown_fits (PutNumber a) _ h
-  by_fits (Spill to a) op values h = both_first _ _ h
-  by_fits (Reload to a) op values h = both_first _ _ h
-  by_fits (ReturnAct a) op values h = shown_fits (ReturnAct a) _ h
-
-  pub effects_fit : (ops : List WideOp) (places : Loc → Tagged) → list_all (op_fits regs slots) ops ≡ true → list_all (effect_fits regs slots) (effects ops places) ≡ true
-  effects_fit [] places h = refl
-  effects_fit (op ∷ ops) places h =
-      rw (by_fits op.act op (map places (sources op.act)) (both_first (op_fits regs slots op) _ h)) (effects_fit ops places (both_second (op_fits regs slots op) _ h))
+  -- from an input from which the word's bytes are taken
+  pub word_comes : (base : ℕ) (room : ℕ → Bool) (memory : List ℕ) (ops : List WideOp) (fs gs : List Planned) (input left : List ℕ)
+      → map (effect_of places) fs ≡ effects (record { base = base; memory = memory; room = room }) places ops
+      → heard input (before_report fs) ≡ gs → left_after (before_report fs) input ≡ left
+      → after_word true ops base room places memory input ≡ finish (effect_of places (turn_after Idle fs)) (flow (places_after gs places) (memory_after gs memory) left (text (before_report fs)))
+  unfolding after_word
+  word_comes base room memory ops fs gs input left planned hears leaves =
+      ap (λ es. acts true es (λ s. Through s) (flow places memory input [])) (sym planned)
+      ∙ acts_are fs Idle (flow places memory input [])
+      ∙ ap (λ s. finish (effect_of places (turn_after Idle fs)) s) (done_is (before_report fs) places memory input [])
+      ∙ ap (λ hs. finish (effect_of places (turn_after Idle fs)) (flow (places_after hs places) (memory_after hs memory) (left_after (before_report fs) input) (text (before_report fs)))) hears
+      ∙ ap (λ l. finish (effect_of places (turn_after Idle fs)) (flow (places_after gs places) (memory_after gs memory) l (text (before_report fs)))) leaves

@@ -1,53 +1,107 @@
--- What the effects of a word come to, one after the other: where control goes, registers and slots, and the text.
--- Behind a report nothing is done.
-use Rattle.std.specs.Prelude.{ℕ, Bool, true, List, [], ◌∷◌, ◌++◌}
+-- What the planned effects of a word come to: where control goes, the text, the input, registers and slots, the memory.
+use Rattle.std.specs.Prelude.{◌≡◌, ℕ, ℤ, pos, negsuc, Bool, true, false, Option, Some, None, List, [], ◌∷◌, ◌++◌}
 use Rattle.std.specs.Fmt.{signed_decimal}
+use Rattle.ib_base.specs.World.{World}
 use Rattle.wide_core.specs.declared.code.Loc.{Loc}
+use Rattle.wide_core.specs.declared.code.Loc.TheVariants.{Reg}
 use Rattle.wide_core.specs.declared.code.Tagged.{Tagged}
-use Rattle.wide_core.specs.declared.effect.Effect.{Effect}
-use Rattle.wide_core.specs.declared.effect.Effect.TheVariants.{Write, Print, Leave, Stop}
+use Rattle.wide_core.specs.declared.code.Tagged.TheVariants.{Clear}
 use Rattle.wide_core.specs.Places.{put}
-use Rattle.wide_sim.specs.declared.turn.Turn.{Turn}
-use Rattle.wide_sim.specs.declared.turn.Turn.TheVariants.{Next, Return, Report}
-use Rattle.wide_sim.specs.Store.{is_within}
+use Rattle.wide_core.specs.Word.{byte_from, behind_byte, saved}
+use Rattle.wide_sim.specs.declared.planned.Planned.{Planned}
+use Rattle.wide_sim.specs.declared.planned.Planned.TheVariants.{Write, Save, Take, PutByte, PutNumber, Jump, Call, Return, Report}
+use Rattle.std.specs.List.{list_all}
+use Rattle.wide_sim.specs.Fits.{planned_fits}
+use Rattle.ib_meaning.specs.Agreement.{IsPrefix}
+use Rattle.ib_run.specs.OverHost.{OverHost}
 
-abbrev pub turn_by : Turn → Effect → Turn
-turn_by (Report number kind) effect = Report number kind
-turn_by turn (Leave z) = Return z
-turn_by turn (Stop number kind) = Report number kind
-turn_by turn effect = turn
-
-abbrev pub written : Effect → (Loc → Tagged) → Loc → Tagged
-written (Write to value) places = put to value places
-written effect places = places
-
-abbrev pub text_of : Effect → List ℕ
-text_of (Print z) = signed_decimal z
-text_of effect = []
-
-abbrev pub places_by : Turn → Effect → (Loc → Tagged) → Loc → Tagged
-places_by (Report number kind) effect places = places
-places_by Next effect places = written effect places
-places_by (Return z) effect places = written effect places
-
-abbrev pub text_by : Turn → Effect → List ℕ
-text_by (Report number kind) effect = []
-text_by Next effect = text_of effect
-text_by (Return z) effect = text_of effect
-
-abbrev pub turn_after : Turn → List Effect → Turn
+-- the effect that says where control goes: the first report, or else the last control operation's
+abbrev pub turn_after : Planned → List Planned → Planned
 turn_after turn [] = turn
-turn_after turn (e ∷ es) = turn_after (turn_by turn e) es
+turn_after turn (Report number kind ∷ fs) = Report number kind
+turn_after turn (Jump to ∷ fs) = turn_after (Jump to) fs
+turn_after turn (Call result func next args ∷ fs) = turn_after (Call result func next args) fs
+turn_after turn (Return z ∷ fs) = turn_after (Return z) fs
+turn_after turn (f ∷ fs) = turn_after turn fs
 
-abbrev pub places_after : Turn → List Effect → (Loc → Tagged) → Loc → Tagged
-places_after turn [] places = places
-places_after turn (e ∷ es) places = places_after (turn_by turn e) es (places_by turn e places)
+-- the effects before the first report
+abbrev pub before_report : List Planned → List Planned
+before_report [] = []
+before_report (Report number kind ∷ fs) = []
+before_report (f ∷ fs) = f ∷ before_report fs
 
-abbrev pub text_after : Turn → List Effect → List ℕ
-text_after turn [] = []
-text_after turn (e ∷ es) = text_by turn e ++ text_after (turn_by turn e) es
+abbrev pub text_of : Planned → List ℕ
+text_of (PutByte byte) = byte ∷ []
+text_of (PutNumber z) = signed_decimal z
+text_of f = []
 
--- what the effect writes is among so many registers and slots
-abbrev pub effect_fits : ℕ → ℕ → Effect → Bool
-effect_fits regs slots (Write to value) = is_within regs slots to
-effect_fits regs slots effect = true
+abbrev pub text : List Planned → List ℕ
+text [] = []
+text (f ∷ fs) = text_of f ++ text fs
+
+-- with the byte that it takes, where it takes one
+abbrev pub hear : List ℕ → Planned → Planned
+hear left (Take to) = Write (Reg to) (Clear (byte_from left))
+hear left f = f
+
+abbrev pub left_behind : Planned → List ℕ → List ℕ
+left_behind (Take to) left = behind_byte left
+left_behind f left = left
+
+abbrev pub heard : List ℕ → List Planned → List Planned
+heard left [] = []
+heard left (f ∷ fs) = hear left f ∷ heard (left_behind f left) fs
+
+abbrev pub left_after : List Planned → List ℕ → List ℕ
+left_after [] left = left
+left_after (f ∷ fs) left = left_after fs (left_behind f left)
+
+abbrev pub written : Planned → (Loc → Tagged) → Loc → Tagged
+written (Write to value) places = put to value places
+written f places = places
+
+abbrev pub places_after : List Planned → (Loc → Tagged) → Loc → Tagged
+places_after [] places = places
+places_after (f ∷ fs) places = places_after fs (written f places)
+
+abbrev pub stored_by : Planned → List ℕ → List ℕ
+stored_by (Save width address value) memory = saved width address value memory
+stored_by f memory = memory
+
+abbrev pub memory_after : List Planned → List ℕ → List ℕ
+memory_after [] memory = memory
+memory_after (f ∷ fs) memory = memory_after fs (stored_by f memory)
+
+-- with this input the effects became those, and printed their text
+pub record Hears (fs gs : List Planned) (input left out : List ℕ) : Type 0 where
+  pub given : heard input fs ≡ gs
+  pub rest : left_after fs input ≡ left
+  pub prints : out ≡ text fs
+
+-- the same of one effect
+pub record HearsOne (f g : Planned) (input left out : List ℕ) : Type 0 where
+  pub given : hear input f ≡ g
+  pub rest : left_behind f input ≡ left
+  pub prints : out ≡ text_of f
+
+-- a beginning of the text was printed
+abbrev pub PrintsSome : List ℕ → (input left out : List ℕ) → Type 0
+PrintsSome text input left out = IsPrefix out text
+
+-- over a host the effects became those, which write no more
+pub record Asked (fs gs : List Planned) (before after : World) : Type 0 where
+  pub over : OverHost (Hears fs gs) before after
+  pub fits : (regs slots : ℕ) → list_all (planned_fits regs slots) fs ≡ true → list_all (planned_fits regs slots) gs ≡ true
+
+-- the same of one effect
+pub record AskedOne (f g : Planned) (before after : World) : Type 0 where
+  pub over : OverHost (HearsOne f g) before after
+  pub fits : (regs slots : ℕ) → planned_fits regs slots f ≡ true → planned_fits regs slots g ≡ true
+
+abbrev pub number_of_byte : Option ℕ → ℤ
+number_of_byte None = negsuc 0
+number_of_byte (Some byte) = pos byte
+
+abbrev pub is_report : Planned → Bool
+is_report (Report number kind) = true
+is_report f = false

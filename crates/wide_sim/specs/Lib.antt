@@ -1,7 +1,15 @@
+pub mod Advance
+pub mod Causes
+pub mod Cycles
+pub mod EffectFits
 pub mod Effects
 pub mod Errors
 pub mod Fits
+pub mod Frames
 pub mod Homes
-pub mod Simulated
+pub mod Next
+pub mod Planned
+pub mod Quiet
 pub mod Simulation
+pub mod Site
 pub mod Store

@@ -1,22 +1,33 @@
 //! The machine of long words, simulated cycle by cycle over a host.
 #![tactic(auto)]
 
-mod arithmetic;
-mod bounds;
+mod advance;
+mod ask;
+mod at_hand;
+mod callers;
+mod cycle;
+mod frame;
 mod from_start;
 mod home;
+mod next;
 mod outcome;
 mod plan;
+mod planned;
 mod sim;
+mod site;
+mod start;
 mod store;
 #[cfg(test)]
 mod tests;
+mod tick;
 mod times;
-mod turn;
 mod word;
 
-pub use bounds::fits;
+pub use callers::Callers;
+pub use frame::{Frame, Suspended};
 pub use from_start::simulate;
+pub use next::Next;
 pub use outcome::{SimErr, SimOutcome, Stepped};
+pub use planned::Planned;
 pub use sim::Sim;
 pub use store::Store;

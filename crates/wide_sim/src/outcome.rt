@@ -1,4 +1,5 @@
 use ib_base::{FaultKind, HostErr, Place};
+use std::alloc::AllocError;
 
 /// What a cycle leaves: the machine goes on, has ended with a result, or has reported a fault.
 #[derive(Clone, Copy, PartialEq, Eq, Debug)]
@@ -42,5 +43,16 @@ impl From<HostErr> for SimErr {
             HostErr::Failed => SimErr::HostFailed,
             HostErr::NoMemory => SimErr::NoMemory,
         }
+    }
+}
+
+impl From<AllocError> for SimErr {
+    ghost use Rattle.std.specs.Prelude.{◌≡◌};
+    ghost use Rattle.wide_sim.specs.declared.outcome.SimErr.{SimErr};
+
+    ghost from_gives = { λ error result. result ≡ SimErr.NoMemory };
+
+    fn from(_error: AllocError) -> SimErr {
+        SimErr::NoMemory
     }
 }

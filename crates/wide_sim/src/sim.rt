@@ -1,67 +1,85 @@
-ghost use Rattle.std.specs.Prelude.{◌≡◌, ◌+◌, ◌<◌, ◌≤◌, ◌^◌, true, slice_get, IsTrue, IsOk, OnOk, OnErr, IfOk, IsErrOf};
-ghost use Rattle.ib_base.specs.Integers.{wrapped};
-ghost use Rattle.wide_sim.specs.Fits.{fits};
-ghost use Rattle.wide_sim.specs.Simulation.{BreaksOff, IsLoaded, Leads, PrintsPrefix, Ran, RunBreaksOff, SimCause, is_over, outcome_by, stepped_by};
+ghost use Rattle.std.specs.Prelude.{◌≡◌, true, ◌+◌, ◌<◌, ◌≤◌, ◌^◌, ◌↔◌, length, IsTrue, IsOk, IsSome, IfOk, IfSome, OnOk, OnErr, IsErrOf};
+ghost use Rattle.ib_run.specs.OverHost.{OverHost};
+ghost use Rattle.wide_core.specs.declared.code.Loc.TheVariants.{Reg};
+ghost use Rattle.wide_sim.specs.Causes.{SimCause};
+ghost use Rattle.wide_sim.specs.Frames.{ops_at};
+ghost use Rattle.wide_sim.specs.Quiet.{is_quiet_word};
+ghost use Rattle.wide_sim.specs.Simulation.{Begins, BreaksOff, Cycles, IsLoaded, Ran, RunBreaksOff, is_over, meaning_from, outcome_by, state_of};
 
-use crate::bounds::{MOST_OPS, REGS};
-use crate::home::home_of;
+use crate::callers::Callers;
+use crate::frame::{Frame, fresh};
 use crate::outcome::{SimErr, SimOutcome, Stepped};
-use crate::store::Store;
-use crate::times::{any_late, set_times};
-use crate::turn::Turn;
-use crate::word::do_word;
-use ib_base::{Host, Width, wrap};
+use crate::planned::Planned;
+use crate::start::{first_base, first_memory, number_of_main};
+use crate::tick::tick;
+use ib_base::Host;
+use ib_mem::Memory;
+use machine_desc::Machine;
 use std::alloc::{AllocError, Global};
 use std::marker::Model;
-use wide_core::{Effect, RawCode, Tagged, Word};
+use wide_core::{Tagged, WideCode};
 
-/// The machine with its code, at the start of a cycle or over.
+/// No machine has wider words.
+const MOST_OPS: usize = 64;
+
+/// The machine `M` with its code, at the start of a cycle or over.
 #[derive(Drop)]
-pub struct Sim<'a> {
-    code: &'a RawCode,
-    words: &'a [Word],
-    at: usize,
-    values: Store<Tagged>,
-    ready: Store<u64>,
+pub struct Sim<'a, M: Machine> {
+    alloc: Global,
+    code: &'a WideCode<M>,
+    call: Frame,
+    callers: Callers,
+    memory: Memory,
     cycle: u64,
     stepped: Stepped,
-    plan: Vec<Effect>,
+    plan: Vec<Planned<'a>>,
 }
 
-impl<'a> Model for Sim<'a> {
-    ghost use Rattle.wide_sim.specs.Simulation.{Simulation};
-    ghost use Rattle.wide_sim.specs.Fits.{IsSound};
+impl<'a, M: Machine> Model for Sim<'a, M> {
+    ghost use Rattle.std.specs.Prelude.{length};
+    ghost use Rattle.wide_core.specs.Valid.{limits};
+    ghost use Rattle.wide_sim.specs.Simulation.{IsSound, Simulation};
 
     ghost Value = { Simulation };
 
     ghost view = { λ sim. record {
       code = sim.code.now;
-      at = sim.at;
-      values = sim.values;
-      ready = sim.ready;
+      call = sim.call;
+      callers = sim.callers;
+      memory = sim.memory;
       cycle = sim.cycle;
       stepped = sim.stepped;
     } };
 
-    ghost invariant = { λ sim. IsSound sim.code.now sim.words.now sim.values sim.ready sim.plan.items };
+    ghost invariant = { λ sim. IsSound (limits M.WIDTH M.REGS M.units_of) sim.code.now sim.call sim.callers (length sim.plan.items) };
 }
 
-impl<'a> Sim<'a> {
-    /// A machine at the start of `main`, with all registers and slots 0, clear and ready.
-    pub fn load(alloc: Global, code: &'a RawCode) -> Result<Sim<'a>, AllocError>
-        requires { fits code.now ≡ true }
-        ensures { IfOk result (IsLoaded code.now) }
+impl<'a, M: Machine> Sim<'a, M> {
+    /// A machine at the start of `main`, with its memory filled, and all registers and slots 0, clear and ready.
+    pub fn load(alloc: Global, code: &'a WideCode<M>) -> Result<Sim<'a, M>, AllocError>
+        ensures { IfOk result (IsLoaded M.latency_of code.now) }
     {
-        let main = &code.funcs.as_slice()[0];
+        let raw = code.raw();
+        let funcs = raw.funcs.as_slice();
+        let func = number_of_main(funcs);
+        prove!(func < funcs.len());
+        let main = &funcs[func];
+        let image = raw.image.as_slice();
+        let base = first_base(image);
+        let call = fresh(alloc, M::REGS, main, func, base)?;
+        let mut memory = first_memory(alloc, image)?;
+        memory.clear(base, main.frame);
+        let callers = Callers::new(alloc)?;
+        let plan = room_for_effects(alloc)?;
         Ok(Sim {
+            alloc,
             code,
-            words: main.words.as_slice(),
-            at: 0,
-            values: Store::filled(alloc, REGS, main.slots, Tagged::Clear(0))?,
-            ready: Store::filled(alloc, REGS, main.slots, 0)?,
+            call,
+            callers,
+            memory,
             cycle: 0,
             stepped: Stepped::Going,
-            plan: Vec::from_slice(alloc, &[Effect::Leave(0); MOST_OPS])?,
+            plan,
         })
     }
 
@@ -69,40 +87,46 @@ impl<'a> Sim<'a> {
     pub fn step<H: Host>(&mut self, host: &mut H) -> Result<Stepped, SimErr>
         requires { self.old.cycle < 2 ^ 63 }
         ensures stepped { IfOk result (λ stepped. stepped ≡ self.new.stepped) }
-        ensures cycle { self.old.stepped ≡ Stepped.Going → OnOk result (Leads 1 self.old self.new (H.world host.old) (H.world host.new)) }
+        ensures cycle { self.old.stepped ≡ Stepped.Going → OnOk result (OverHost (Cycles M.latency_of self.old self.new) (H.world host.old) (H.world host.new)) }
+        ensures counted { self.old.stepped ≡ Stepped.Going → OnOk result (self.new.cycle ≡ self.old.cycle + 1) }
         ensures over { IsTrue (is_over self.old.stepped) → IsOk result × (self.new ≡ self.old) × (H.world host.new ≡ H.world host.old) }
+        ensures code { self.new.code ≡ self.old.code }
         ensures kept { OnErr result (self.new ≡ self.old) }
-        ensures broken { OnErr result (BreaksOff self.old (H.world host.old) (H.world host.new)) }
+        ensures broken { OnErr result (OverHost (BreaksOff M.latency_of self.old) (H.world host.old) (H.world host.new)) }
+        ensures quiet { is_quiet_word (ops_at self.old.code self.old.call) ≡ true → IsOk result }
         ensures cause { SimCause (H.faults host.old) (H.faults host.new) result }
         ensures still_sure { H.sure host.old → H.sure host.new }
         ensures never { H.sure host.old → IsErrOf result SimErr.HostFailed → ⊥ }
     {
-        match self.stepped() {
-            Stepped::Going => match self.go(host) {
-                Ok(()) => Ok(self.stepped()),
-                Err(error) => Err(error),
-            },
-            Stepped::Ended(_) | Stepped::Reported { .. } => Ok(self.stepped()),
+        match self.stepped {
+            Stepped::Going => self.go(host),
+            Stepped::Ended(_) | Stepped::Reported { .. } => Ok(self.stepped),
         }
     }
 
     /// Cycles until the machine is over, but no more than these.
     pub fn run<H: Host>(&mut self, host: &mut H, cycles: u64) -> Result<SimOutcome, SimErr>
         requires { self.old.cycle + cycles ≤ 2 ^ 63 }
-        ensures ok { IfOk result (λ outcome. Ran outcome cycles self.old self.new (H.world host.old) (H.world host.new)) }
-        ensures broken { OnErr result (RunBreaksOff cycles self.old self.new (H.world host.old) (H.world host.new)) }
-        ensures prefix { OnErr result (PrintsPrefix cycles self.old (H.world host.old) (H.world host.new)) }
+        ensures stands { IfOk result (λ outcome. outcome ≡ outcome_by self.new.stepped self.new.cycle) }
+        ensures ok { self.old.stepped ≡ Stepped.Going → IfOk result (λ outcome. Ran M.latency_of outcome cycles self.old self.new (H.world host.old) (H.world host.new)) }
+        ensures over { IsTrue (is_over self.old.stepped) → IsOk result × (self.new ≡ self.old) × (H.world host.new ≡ H.world host.old) }
+        ensures code { self.new.code ≡ self.old.code }
+        ensures broken { OnErr result (RunBreaksOff M.latency_of cycles self.old self.new (H.world host.old) (H.world host.new)) }
+        ensures begins { OnErr result (OverHost (Begins (meaning_from M.latency_of self.old) cycles) (H.world host.old) (H.world host.new)) }
         ensures cause { SimCause (H.faults host.old) (H.faults host.new) result }
         ensures still_sure { H.sure host.old → H.sure host.new }
         ensures never { H.sure host.old → IsErrOf result SimErr.HostFailed → ⊥ }
     {
+        if self.finished() {
+            return Ok(self.outcome());
+        }
         for _done in 0..cycles {
+            match self.go(host) {
+                Ok(_) => {}
+                Err(error) => return Err(error),
+            }
             if self.finished() {
                 return Ok(self.outcome());
-            }
-            match self.go(host) {
-                Ok(()) => {}
-                Err(error) => return Err(error),
             }
         }
         Ok(self.outcome())
@@ -115,11 +139,12 @@ impl<'a> Sim<'a> {
         self.cycle
     }
 
-    /// What a register of the call at hand holds.
+    /// What a register of the call at hand holds, or `None` where the machine has no such register.
     pub fn reg(&self, reg: u32) -> Option<Tagged>
-        ensures { result ≡ slice_get self.now.values.regs reg }
+        ensures there { IsSome result ↔ reg < M.REGS }
+        ensures value { IfSome result (λ value. value ≡ (state_of self.now).word.call.places (Reg reg)) }
     {
-        self.values.reg(reg)
+        self.call.values.reg(reg)
     }
 
     /// Whether the machine has ended or reported.
@@ -130,12 +155,6 @@ impl<'a> Sim<'a> {
             Stepped::Going => false,
             Stepped::Ended(_) | Stepped::Reported { .. } => true,
         }
-    }
-
-    fn stepped(&self) -> Stepped
-        ensures { result ≡ self.now.stepped }
-    {
-        self.stepped
     }
 
     fn outcome(&self) -> SimOutcome
@@ -155,53 +174,48 @@ impl<'a> Sim<'a> {
         }
     }
 
-    fn go<H: Host>(&mut self, host: &mut H) -> Result<(), SimErr>
+    /// One cycle of a machine that goes on.
+    fn go<H: Host>(&mut self, host: &mut H) -> Result<Stepped, SimErr>
         requires going { self.old.stepped ≡ Stepped.Going }
         requires time { self.old.cycle < 2 ^ 63 }
-        ensures ok { OnOk result (Leads 1 self.old self.new (H.world host.old) (H.world host.new)) }
+        ensures stepped { IfOk result (λ stepped. stepped ≡ self.new.stepped) }
+        ensures cycle { OnOk result (OverHost (Cycles M.latency_of self.old self.new) (H.world host.old) (H.world host.new)) }
+        ensures counted { OnOk result (self.new.cycle ≡ self.old.cycle + 1) }
+        ensures code { self.new.code ≡ self.old.code }
         ensures kept { OnErr result (self.new ≡ self.old) }
-        ensures broken { OnErr result (BreaksOff self.old (H.world host.old) (H.world host.new)) }
+        ensures broken { OnErr result (OverHost (BreaksOff M.latency_of self.old) (H.world host.old) (H.world host.new)) }
+        ensures quiet { is_quiet_word (ops_at self.old.code self.old.call) ≡ true → IsOk result }
         ensures cause { SimCause (H.faults host.old) (H.faults host.new) result }
         ensures still_sure { H.sure host.old → H.sure host.new }
         ensures never { H.sure host.old → IsErrOf result SimErr.HostFailed → ⊥ }
     {
-        if self.at >= self.words.len() {
-            self.cycle += 1;
-            return Ok(());
-        }
-        let ops = self.words[self.at].ops.as_slice();
-        if any_late(&self.ready, self.cycle, ops) {
-            self.cycle += 1;
-            return Ok(());
-        }
-        match do_word(host, self.plan.as_mut_slice(), &mut self.values, ops) {
-            Ok(turn) => {
-                set_times(&mut self.ready, self.cycle, ops);
-                self.at += 1;
-                self.cycle += 1;
-                self.stepped = stepped_by(self.code, turn);
-                Ok(())
-            }
-            Err(error) => Err(SimErr::from(error)),
-        }
+        let code = self.code.raw();
+        let stepped = match tick::<M, H>(
+            host,
+            self.alloc,
+            self.plan.as_mut_slice(),
+            code,
+            &mut self.call,
+            &mut self.callers,
+            &mut self.memory,
+            self.cycle,
+        ) {
+            Ok(stepped) => stepped,
+            Err(error) => return Err(error),
+        };
+        self.cycle += 1;
+        self.stepped = stepped;
+        Ok(stepped)
     }
 }
 
-fn stepped_by(code: &RawCode, turn: Turn) -> Stepped
-    ensures { result ≡ stepped_by code.now turn }
+/// Room for what the operations of the widest word do.
+fn room_for_effects<'a>(alloc: Global) -> Result<Vec<Planned<'a>>, AllocError>
+    ensures { IfOk result (λ plan. length plan.items ≡ 64) }
 {
-    match turn {
-        Turn::Next => Stepped::Going,
-        Turn::Return(number) => Stepped::Ended(result_of(number)),
-        Turn::Report { number, kind } => Stepped::Reported {
-            place: home_of(code, number),
-            kind,
-        },
+    let mut plan = Vec::with_capacity(alloc, MOST_OPS)?;
+    for _made in 0..MOST_OPS {
+        plan.push(Planned::Idle)?;
     }
-}
-
-fn result_of(number: i64) -> i32
-    ensures { result ≡ wrapped Width.W4 number }
-{
-    wrap(Width::W4, i128::from(number)) as i32
+    Ok(plan)
 }

@@ -13,7 +13,7 @@ pub struct Store<T> {
 }
 
 impl<T: Copy + Drop> Store<T> {
-    pub fn filled(alloc: Global, regs: u32, slots: u32, item: T) -> Result<Store<T>, AllocError>
+    pub fn filled(alloc: Global, regs: usize, slots: usize, item: T) -> Result<Store<T>, AllocError>
         ensures regs { IfOk result (λ store. store.regs ≡ replicate regs item) }
         ensures slots { IfOk result (λ store. store.slots ≡ replicate slots item) }
     {
@@ -50,7 +50,7 @@ impl<T: Copy + Drop> Store<T> {
     }
 }
 
-fn repeated<T: Copy + Drop>(alloc: Global, count: u32, item: T) -> Result<Items<T>, AllocError>
+fn repeated<T: Copy + Drop>(alloc: Global, count: usize, item: T) -> Result<Items<T>, AllocError>
     ensures { IfOk result (λ items. items ≡ replicate count item) }
 {
     let mut items = Items::new(alloc);

@@ -1,142 +1,110 @@
-ghost use Rattle.std.specs.Prelude.{◌≡◌, ◌≤◌, true, pos, length, take, IfOk, OnOk, OnErr, IsErrOf};
+ghost use Rattle.std.specs.Prelude.{◌≡◌, ◌≤◌, true, pos, length, map, take};
 ghost use Rattle.std.specs.List.{list_all};
-ghost use Rattle.ib_base.specs.Cause.{HasCause};
-ghost use Rattle.ib_base.specs.World.{printed, PrintsPart};
 ghost use Rattle.wide_core.specs.Word.{effects};
-ghost use Rattle.wide_sim.specs.Effects.{effect_fits, places_after, places_by, text_after, text_by, text_of, turn_after, written};
-ghost use Rattle.wide_sim.specs.Fits.{op_fits};
+ghost use Rattle.wide_sim.specs.Effects.{before_report, is_report, memory_after, places_after, stored_by, turn_after, written};
+ghost use Rattle.wide_sim.specs.Fits.{op_fits, planned_fits};
+ghost use Rattle.wide_sim.specs.Next.{has_args};
+ghost use Rattle.wide_sim.specs.Planned.{effect_of};
+ghost use Rattle.wide_sim.specs.Quiet.{is_quiet_plan, is_quiet_word};
+ghost use Rattle.wide_sim.specs.Site.{around};
 ghost use Rattle.wide_sim.specs.Store.{held};
 
-use crate::plan::effect_of;
+use crate::plan::plan_op;
+use crate::planned::Planned;
+use crate::site::Site;
 use crate::store::Store;
-use crate::turn::Turn;
-use ib_base::{Host, HostErr};
-use itoa::Buffer;
-use wide_core::{Effect, Tagged, WideOp};
-
-/// Does a word whose operations fit: prints what it prints, then writes what it writes. After an error nothing is written.
-pub fn do_word<H: Host>(
-    host: &mut H,
-    plan: &mut [Effect],
-    values: &mut Store<Tagged>,
-    ops: &[WideOp],
-) -> Result<Turn, HostErr>
-    requires room { length ops.now ≤ length plan.old }
-    requires fit { list_all (op_fits (length values.old.regs) (length values.old.slots)) ops.now ≡ true }
-    ensures turn { IfOk result (λ turn. turn ≡ turn_after Turn.Next (effects ops.now (held (Tagged.Clear (pos 0)) values.old))) }
-    ensures places { OnOk result (let places = held (Tagged.Clear (pos 0)) values.old in
-        held (Tagged.Clear (pos 0)) values.new ≡ places_after Turn.Next (effects ops.now places) places) }
-    ensures world { OnOk result (H.world host.new ≡ printed (H.world host.old) (text_after Turn.Next (effects ops.now (held (Tagged.Clear (pos 0)) values.old)))) }
-    ensures kept { OnErr result (values.new ≡ values.old) }
-    ensures part { OnErr result (PrintsPart (H.world host.old) (H.world host.new) (text_after Turn.Next (effects ops.now (held (Tagged.Clear (pos 0)) values.old)))) }
-    ensures regs { length values.new.regs ≡ length values.old.regs }
-    ensures slots { length values.new.slots ≡ length values.old.slots }
-    ensures cause { HasCause (H.faults host.old) (H.faults host.new) result }
-    ensures still_sure { H.sure host.old → H.sure host.new }
-    ensures never { H.sure host.old → IsErrOf result HostErr.Failed → ⊥ }
-{
-    plan_effects(plan, values, ops);
-    let effects = &plan[..ops.len()];
-    match print_effects(host, effects) {
-        Ok(()) => Ok(write_effects(values, effects)),
-        Err(error) => Err(error),
-    }
-}
+use ib_act::bytes_in;
+use ib_mem::Memory;
+use wide_core::{Tagged, WideOp};
 
 /// Puts the effects of a word's operations to the front of `plan`. All of them read what stands before the word.
-fn plan_effects(plan: &mut [Effect], values: &Store<Tagged>, ops: &[WideOp])
+#[tactic(auto, using(crate::proofs::Places::sources_within))]
+pub(crate) fn plan_word<'a>(
+    plan: &mut [Planned<'a>],
+    site: &Site,
+    memory: &Memory,
+    values: &Store<Tagged>,
+    ops: &'a [WideOp],
+)
     requires room { length ops.now ≤ length plan.old }
     requires fit { list_all (op_fits (length values.now.regs) (length values.now.slots)) ops.now ≡ true }
-    ensures { take (length ops.now) plan.new ≡ effects ops.now (held (Tagged.Clear (pos 0)) values.now) }
+    ensures effects { map (effect_of (held (Tagged.Clear (pos 0)) values.now)) (take (length ops.now) plan.new) ≡ effects (around site.now memory.now) (held (Tagged.Clear (pos 0)) values.now) ops.now }
+    ensures args { list_all (has_args (length values.now.regs) (length values.now.slots)) (take (length ops.now) plan.new) ≡ true }
+    ensures quiet { is_quiet_word ops.now ≡ true → list_all is_quiet_plan (take (length ops.now) plan.new) ≡ true }
+    ensures len { length plan.new ≡ length plan.old }
 {
     for (i, op) in ops.iter().enumerate() {
-        plan[i] = effect_of(values, op);
+        plan[i] = plan_op(site, memory, values, op);
     }
 }
 
-/// Writes what the effects write, up to the first report.
-fn write_effects(values: &mut Store<Tagged>, effects: &[Effect]) -> Turn
-    requires { list_all (effect_fits (length values.old.regs) (length values.old.slots)) effects.now ≡ true }
-    ensures turn { result ≡ turn_after Turn.Next effects.now }
-    ensures places { held (Tagged.Clear (pos 0)) values.new ≡ places_after Turn.Next effects.now (held (Tagged.Clear (pos 0)) values.old) }
-    ensures regs { length values.new.regs ≡ length values.old.regs }
-    ensures slots { length values.new.slots ≡ length values.old.slots }
+/// Where control goes behind these effects.
+pub(crate) fn turn_of<'a>(plan: &[Planned<'a>]) -> Planned<'a>
+    ensures { result ≡ turn_after Planned.Idle plan.now }
 {
-    let mut turn = Turn::Next;
-    for effect in effects {
-        write_effect(values, turn, *effect);
-        turn = turn.by(*effect);
+    let mut turn = Planned::Idle;
+    for effect in plan {
+        match effect {
+            Planned::Report { .. } => return *effect,
+            Planned::Jump { .. } | Planned::Call { .. } | Planned::Return(_) => turn = *effect,
+            _ => {}
+        }
     }
     turn
 }
 
-fn write_effect(values: &mut Store<Tagged>, turn: Turn, effect: Effect)
-    requires { effect_fits (length values.old.regs) (length values.old.slots) effect ≡ true }
-    ensures places { held (Tagged.Clear (pos 0)) values.new ≡ places_by turn effect (held (Tagged.Clear (pos 0)) values.old) }
+/// How many effects stand before the first report.
+pub(crate) fn before_report(plan: &[Planned]) -> usize
+    ensures before { take result plan.now ≡ before_report plan.now }
+    ensures within { result ≤ length plan.now }
+{
+    for (i, effect) in plan.iter().enumerate() {
+        if is_report(effect) {
+            return i;
+        }
+    }
+    plan.len()
+}
+
+fn is_report(effect: &Planned) -> bool
+    ensures { result ≡ is_report effect.now }
+{
+    match effect {
+        Planned::Report { .. } => true,
+        _ => false,
+    }
+}
+
+/// Writes what the effects write.
+pub(crate) fn write_effects(values: &mut Store<Tagged>, memory: &mut Memory, plan: &[Planned])
+    requires { list_all (planned_fits (length values.old.regs) (length values.old.slots)) plan.now ≡ true }
+    ensures places { held (Tagged.Clear (pos 0)) values.new ≡ places_after plan.now (held (Tagged.Clear (pos 0)) values.old) }
+    ensures memory { memory.new ≡ memory_after plan.now memory.old }
     ensures regs { length values.new.regs ≡ length values.old.regs }
     ensures slots { length values.new.slots ≡ length values.old.slots }
 {
-    match turn {
-        Turn::Next | Turn::Return(_) => write(values, effect),
-        Turn::Report { .. } => {}
+    for effect in plan {
+        write_effect(values, memory, effect);
     }
 }
 
 #[tactic(auto, using(crate::proofs::Places::held_put))]
-fn write(values: &mut Store<Tagged>, effect: Effect)
-    requires { effect_fits (length values.old.regs) (length values.old.slots) effect ≡ true }
-    ensures places { held (Tagged.Clear (pos 0)) values.new ≡ written effect (held (Tagged.Clear (pos 0)) values.old) }
+fn write_effect(values: &mut Store<Tagged>, memory: &mut Memory, effect: &Planned)
+    requires { planned_fits (length values.old.regs) (length values.old.slots) effect.now ≡ true }
+    ensures places { held (Tagged.Clear (pos 0)) values.new ≡ written effect.now (held (Tagged.Clear (pos 0)) values.old) }
+    ensures memory { memory.new ≡ stored_by effect.now memory.old }
     ensures regs { length values.new.regs ≡ length values.old.regs }
     ensures slots { length values.new.slots ≡ length values.old.slots }
 {
     match effect {
-        Effect::Write { to, value } => values.set(to, value),
-        Effect::Print(_) | Effect::Leave(_) | Effect::Stop { .. } => {}
-    }
-}
-
-/// Prints what the effects print, up to the first report.
-fn print_effects<H: Host>(host: &mut H, effects: &[Effect]) -> Result<(), HostErr>
-    ensures ok { OnOk result (H.world host.new ≡ printed (H.world host.old) (text_after Turn.Next effects.now)) }
-    ensures err { OnErr result (PrintsPart (H.world host.old) (H.world host.new) (text_after Turn.Next effects.now)) }
-    ensures cause { HasCause (H.faults host.old) (H.faults host.new) result }
-    ensures still_sure { H.sure host.old → H.sure host.new }
-    ensures never { H.sure host.old → IsErrOf result HostErr.Failed → ⊥ }
-{
-    let mut turn = Turn::Next;
-    for effect in effects {
-        match print_effect(host, turn, *effect) {
-            Ok(()) => turn = turn.by(*effect),
-            Err(error) => return Err(error),
+        Planned::Write { to, value } => values.set(*to, *value),
+        Planned::Save {
+            width,
+            address,
+            value,
+        } => {
+            memory.store(*address, bytes_in(*width), value.cast_unsigned());
         }
-    }
-    Ok(())
-}
-
-#[tactic(auto, using(crate::proofs::Worlds::printed_none))]
-fn print_effect<H: Host>(host: &mut H, turn: Turn, effect: Effect) -> Result<(), HostErr>
-    ensures ok { OnOk result (H.world host.new ≡ printed (H.world host.old) (text_by turn effect)) }
-    ensures err { OnErr result (PrintsPart (H.world host.old) (H.world host.new) (text_by turn effect)) }
-    ensures cause { HasCause (H.faults host.old) (H.faults host.new) result }
-    ensures still_sure { H.sure host.old → H.sure host.new }
-    ensures never { H.sure host.old → IsErrOf result HostErr.Failed → ⊥ }
-{
-    match turn {
-        Turn::Next | Turn::Return(_) => print(host, effect),
-        Turn::Report { .. } => Ok(()),
-    }
-}
-
-#[tactic(auto, using(crate::proofs::Worlds::printed_none))]
-fn print<H: Host>(host: &mut H, effect: Effect) -> Result<(), HostErr>
-    ensures ok { OnOk result (H.world host.new ≡ printed (H.world host.old) (text_of effect)) }
-    ensures err { OnErr result (PrintsPart (H.world host.old) (H.world host.new) (text_of effect)) }
-    ensures cause { HasCause (H.faults host.old) (H.faults host.new) result }
-    ensures still_sure { H.sure host.old → H.sure host.new }
-    ensures never { H.sure host.old → IsErrOf result HostErr.Failed → ⊥ }
-{
-    match effect {
-        Effect::Print(number) => host.put(Buffer::new().format(number).as_bytes()),
-        Effect::Write { .. } | Effect::Leave(_) | Effect::Stop { .. } => Ok(()),
+        _ => {}
     }
 }

@@ -4,8 +4,8 @@ use Rattle.wide_sim.specs.Store.{held}
 use Rattle.wide_sim.proofs.times.set_times.Given as goal
 
 abbrev pub invariant-loop-op : goal.invariant-loop-op
-invariant-loop-op l = record {
-  times : times_after l.now (drop l.op-index l.ops) (held 0 l.ready) ≡ times_after l.now l.ops (held 0 l.initial.ready);
+invariant-loop-op g l = record {
+  times : times_after g.M.Machine.latency_of l.now (drop l.op-index l.ops) (held 0 l.ready) ≡ times_after g.M.Machine.latency_of l.now l.ops (held 0 l.initial.ready);
   regs : length l.ready.regs ≡ length l.initial.ready.regs;
   slots : length l.ready.slots ≡ length l.initial.ready.slots;
 }

@@ -1,5 +1,0 @@
-pub mod Both
-pub mod Cycles
-pub mod Kept
-pub mod Lists
-pub mod Scans

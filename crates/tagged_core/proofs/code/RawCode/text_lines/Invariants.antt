@@ -1,6 +1,0 @@
-use Rattle.std.proofs.Common.{◌≡◌, ◌+◌, drop}
-use Rattle.tagged_core.specs.Valid.{lines_of_funcs, text_lines}
-use Rattle.tagged_core.proofs.code.RawCode.text_lines.Given as goal
-
-abbrev pub invariant-loop-func : goal.invariant-loop-func
-invariant-loop-func l = l.lines + lines_of_funcs (drop l.func-index l.self.funcs) ≡ text_lines l.self

@@ -1,6 +1,0 @@
-use Rattle.std.proofs.Common.{rules}
-use Rattle.wide_sim.proofs.Widths.{narrowed_fits}
-use Rattle.wide_sim.proofs.arithmetic.narrowed.Goals as goal
-
-pub returns-clause-fits : goal.returns-clause-fits
-returns-clause-fits c = narrowed_fits c.args.size c.args.x _ (search rules)

@@ -1,5 +1,5 @@
 -- What is at hand is done: the outcome stays, and there is less to do.
-use Rattle.std.proofs.Common.{◌≡◌, ℕ, suc, ◌+◌, ◌<◌, ◌≤◌, List, refl, subst, sym, arith}
+use Rattle.std.proofs.Common.{◌≡◌, ℕ, suc, ◌+◌, ◌<◌, List, refl, subst, sym, arith}
 use Rattle.c_typed.specs.Program.{Program}
 use Rattle.c_typed.specs.Views.{expr_of, stmt_of}
 use Rattle.c_interp.specs.declared.frame.Task as code

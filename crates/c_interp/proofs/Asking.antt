@@ -1,5 +1,5 @@
 -- What is asked of a host, and what it answers.
-use Rattle.std.proofs.Common.{◌≡◌, ℕ, ℤ, pos, List, [], ◌∷◌, Option, Some, None, refl, sym, ap, ◌∙◌, subst}
+use Rattle.std.proofs.Common.{◌≡◌, ℕ, ℤ, pos, List, [], ◌∷◌, Some, sym, ap, ◌∙◌, subst}
 use Rattle.std.specs.Prelude.{unsigned_abs}
 use Rattle.std.specs.Fmt.{signed_decimal}
 use Rattle.ib_base.specs.declared.integers.Width.TheVariants.{W1}
@@ -9,9 +9,8 @@ use Rattle.ib_meaning.specs.Agreement.{IsPrefix}
 use Rattle.ib_run.specs.OverHost.{OverHost, Takes}
 use Rattle.ib_run.proofs.OverHost.{over_taken, over_printed, over_part, over_weaken}
 use Rattle.c_eval.specs.Doing.{next_of, behind}
-use Rattle.c_interp.specs.declared.frame.Ask.{Ask}
 use Rattle.c_interp.specs.declared.frame.Ask.TheVariants.{GetByte, PutByte, PutNumber}
-use Rattle.c_interp.specs.Running.{Answers, AnswersPart, printed_for}
+use Rattle.c_interp.specs.Running.{Answers, AnswersPart}
 
 pub next_some : (before after : World) (byte : ℕ) (number : ℤ) → TakesByte before after (Some byte) → number ≡ pos byte → OverHost (Answers GetByte number) before after
 next_some before after byte number t is =

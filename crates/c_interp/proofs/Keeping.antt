@@ -1,13 +1,12 @@
 -- Each move leaves the outcome as it is.
-use Rattle.std.proofs.Common.{◌≡◌, ℕ, zero, suc, ◌+◌, ◌<◌, ◌≤◌, ℤ, pos, Bool, true, false, List, [], ◌∷◌, Option, Some, None, Result, Ok, Err, refl, sym, ap, ◌∙◌, arith, if◌then◌else◌}
+use Rattle.std.proofs.Common.{◌≡◌, ℕ, zero, suc, ◌+◌, ◌<◌, ◌≤◌, ℤ, pos, Bool, true, false, List, [], ◌∷◌, Option, Some, None, Result, Ok, Err, refl, ap, ◌∙◌, arith, if◌then◌else◌}
 use Rattle.std.specs.Prelude.{slice_get, slice_index_or, replicate}
 use Rattle.std.specs.Int.{w64, cast_unsigned}
 use Rattle.ib_mem.specs.Memory.{loaded, stored}
 use Rattle.ib_meaning.specs.declared.fault.FaultKind.{FaultKind}
 use Rattle.ib_meaning.specs.declared.fault.FaultKind.TheVariants.{StackOverflow}
-use Rattle.ib_meaning.specs.Agreement.{Report, More}
+use Rattle.ib_meaning.specs.Agreement.{More}
 use Rattle.c_typed.specs.declared.types.ValueType.{ValueType}
-use Rattle.c_typed.specs.declared.operation.Operation.{Operation}
 use Rattle.c_typed.specs.Tree as t
 use Rattle.c_typed.specs.Tree.{Exp, Exps, Maybe, Stm, Stms, Function}
 use Rattle.c_typed.specs.Program.{Program, place_of, main_of}
@@ -19,7 +18,7 @@ use Rattle.c_eval.proofs.Level.{loop_opens, call_opens}
 use Rattle.c_interp.specs.Pending as p
 use Rattle.c_interp.specs.Pending.{Turns, Frame, Exit, Task, Machine, Move, Goes, Faults, Ends, Stops}
 use Rattle.c_interp.specs.Moves as moves
-use Rattle.c_interp.specs.Outcomes.{After, Keeps, outcome, comes_to, doing, after, given, taken, left_by, state_of, value, values, loop_of, onward_of, turn_of, run, runs, leaving}
+use Rattle.c_interp.specs.Outcomes.{After, outcome, comes_to, doing, after, given, taken, left_by, state_of, value, values, loop_of, onward_of, turn_of, runs, leaving}
 
 module _ (q : Program) (n b : ℕ) (left out : List ℕ) where
   abbrev k : Machine → After

@@ -1,8 +1,8 @@
 -- Each move leaves less to do.
-use Rattle.std.proofs.Common.{ℕ, suc, ◌+◌, ◌<◌, ◌≤◌, ℤ, pos, Bool, true, false, List, [], ◌∷◌, Result, Ok, Err, arith, if◌then◌else◌}
+use Rattle.std.proofs.Common.{ℕ, ◌+◌, ◌<◌, ℤ, pos, Bool, true, false, List, [], ◌∷◌, Result, Ok, Err, arith, if◌then◌else◌}
 use Rattle.std.specs.Prelude.{slice_index_or}
 use Rattle.std.specs.Int.{w64, cast_unsigned}
-use Rattle.ib_mem.specs.Memory.{loaded, stored}
+use Rattle.ib_mem.specs.Memory.{stored}
 use Rattle.ib_meaning.specs.declared.fault.FaultKind.{FaultKind}
 use Rattle.c_typed.specs.declared.types.ValueType.{ValueType}
 use Rattle.c_typed.specs.declared.operation.Operation.{Operation}
@@ -15,7 +15,7 @@ use Rattle.c_eval.specs.Doing.{storage}
 use Rattle.c_interp.specs.Pending as p
 use Rattle.c_interp.specs.Pending.{Turns, Frame, Exit, Task, Machine, Move, Goes, Faults, Ends, Stops}
 use Rattle.c_interp.specs.Moves as moves
-use Rattle.c_interp.specs.Weights.{weight, weights, part_weight, again_weight, onward_weight, stm_weight, stms_weight, frame_weight, frames_weight, task_weight, work, Lightens}
+use Rattle.c_interp.specs.Weights.{weight, weights, part_weight, stms_weight, frame_weight, frames_weight, work, Lightens}
 
 module _ (m : Machine) (top : ℕ) where
   abbrev rest : ℕ

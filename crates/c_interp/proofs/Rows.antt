@@ -6,7 +6,7 @@ use Rattle.std.specs.declared.alloc.Global.{Global}
 use Rattle.c_typed.specs.declared.types.ValueType.{ValueType}
 use Rattle.c_typed.specs.declared.expr.Expr.{Expr, Call, Comma, Row_of-Expr, end_of-Expr, more_of-Expr, items-the_row-Expr, the_lemmas}
 use Rattle.c_typed.specs.declared.stmt.Stmt.{Stmt, Block, Row_of-Stmt, end_of-Stmt, more_of-Stmt, items-the_row-Stmt, the_lemmas as stmt_lemmas}
-use Rattle.c_typed.specs.Tree.{exps, an_exp, call, comma, block, stms, a_stm}
+use Rattle.c_typed.specs.Tree.{an_exp, call, comma, block, stms, a_stm}
 use Rattle.c_typed.specs.Views.{expr_of, row_exps, list_exps, stmt_of, row_stms}
 
 pub exps_items : (m : _) (row : Row_of-Expr m) → row_exps row ≡ list_exps (items-the_row-Expr m row)

@@ -1,5 +1,5 @@
 -- How a run over a host goes on, one thing after the other, and how it comes out.
-use Rattle.std.proofs.Common.{◌≡◌, ℕ, zero, suc, ◌+◌, ◌-◌, ◌<◌, ◌≤◌, ℤ, pos, List, [], ◌∷◌, ◌++◌, refl, sym, ap, ◌∙◌, subst, arith, append_assoc}
+use Rattle.std.proofs.Common.{◌≡◌, ℕ, suc, ◌+◌, ◌-◌, ◌<◌, ◌≤◌, ℤ, List, [], ◌++◌, refl, sym, ap, ◌∙◌, subst, arith, append_assoc}
 use Rattle.std.proofs.lemmas.List.{append-nil}
 use Rattle.ib_base.specs.declared.outcome.Outcome.{Outcome}
 use Rattle.ib_base.specs.declared.outcome.Outcome.TheVariants.{Spent}
@@ -15,15 +15,14 @@ use Rattle.c_eval.specs.Meaning.{source_meaning}
 use Rattle.c_interp.specs.declared.frame.Ask.{Ask}
 use Rattle.c_interp.specs.declared.frame.Ask.TheVariants.{GetByte, PutByte, PutNumber}
 use Rattle.c_interp.specs.declared.frame.Halt.TheVariants.{Wants, Over}
-use Rattle.c_interp.specs.declared.frame.Pause.TheVariants.{Asks, Halts}
-use Rattle.c_interp.specs.declared.frame.Task as code
+use Rattle.c_interp.specs.declared.frame.Pause.TheVariants.{Asks}
 use Rattle.c_interp.specs.declared.frame.Want.{Want}
 use Rattle.c_interp.specs.declared.frame.Want.TheVariants as w
 use Rattle.c_interp.specs.Pending as p
 use Rattle.c_interp.specs.Pending.{Task, Machine, Move, Goes}
 use Rattle.c_interp.specs.Moves as moves
 use Rattle.c_interp.specs.Outcomes.{outcome, comes_to}
-use Rattle.c_interp.specs.Views.{ask_of, task_of, want_of, turns_in}
+use Rattle.c_interp.specs.Views.{ask_of, want_of, turns_in}
 use Rattle.c_interp.specs.Running.{Run, MeansSo, Begins, Answers, AnswersPart, printed_for, move_run, halt_run, pause_run, Settles, Leads, LeadsBehind, LeadsPart, LeadsPartBehind, Stands, Came, CameBegun}
 use Rattle.c_interp.proofs.Advances.{advanced_kept, unit_kept}
 use Rattle.c_interp.proofs.Extends.{get_kept, put_byte_kept, put_number_kept, move_begins}

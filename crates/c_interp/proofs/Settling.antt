@@ -1,5 +1,5 @@
 -- The loops that settle a run and that answer it.
-use Rattle.std.proofs.Common.{◌≡◌, ℕ, zero, suc, ◌+◌, ◌<◌, ◌≤◌, ℤ, List, refl, sym, ap, ◌∙◌, subst, arith}
+use Rattle.std.proofs.Common.{◌≡◌, ℕ, ◌<◌, ◌≤◌, ℤ, List, refl, sym, ap, ◌∙◌, subst, arith}
 use Rattle.ib_base.specs.declared.integers.Width.TheVariants.{W4}
 use Rattle.ib_base.specs.declared.outcome.Outcome.{Outcome}
 use Rattle.ib_base.specs.declared.outcome.Outcome.TheVariants.{Ended, Faulted as FaultedAt, Spent}
@@ -26,9 +26,9 @@ use Rattle.c_interp.specs.Pending as p
 use Rattle.c_interp.specs.Pending.{Machine, Frame}
 use Rattle.c_interp.specs.Moves as moves
 use Rattle.c_interp.specs.Outcomes.{comes_to}
-use Rattle.c_interp.specs.Views.{ask_of, task_of, want_of, move_of}
-use Rattle.c_interp.specs.Weights.{work, frames_weight}
-use Rattle.c_interp.specs.Running.{Run, Answers, AnswersPart, move_run, halt_run, pause_run, move_work, pause_work, Settles, Leads, LeadsPart}
+use Rattle.c_interp.specs.Views.{ask_of, task_of, move_of}
+use Rattle.c_interp.specs.Weights.{work}
+use Rattle.c_interp.specs.Running.{Run, Answers, AnswersPart, move_run, pause_run, move_work, pause_work, Settles, Leads, LeadsPart}
 use Rattle.c_interp.proofs.Advances.{advanced_less}
 use Rattle.c_interp.proofs.Runs.{settles_next, settles_so, over_settled, over_answered, over_part, over_begun}
 

@@ -1,5 +1,5 @@
 -- The loop that spends the budget.
-use Rattle.std.proofs.Common.{◌≡◌, ℕ, ◌+◌, ◌<◌, ◌≤◌, refl, sym, subst}
+use Rattle.std.proofs.Common.{◌≡◌, ℕ, ◌+◌, ◌<◌, ◌≤◌, subst}
 use Rattle.ib_base.specs.declared.outcome.Outcome.{Outcome}
 use Rattle.ib_base.specs.declared.outcome.Outcome.TheVariants.{Spent}
 use Rattle.ib_base.specs.World.{World}

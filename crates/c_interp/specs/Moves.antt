@@ -1,5 +1,5 @@
 -- The moves of the interpreter.
-use Rattle.std.specs.Prelude.{ℕ, zero, suc, ◌+◌, ℤ, pos, negsuc, Bool, not, ◌||◌, if◌then◌else◌, List, [], ◌∷◌, Option, Some, None, Result, Ok, Err, replicate, slice_get, slice_index_or, slice_set}
+use Rattle.std.specs.Prelude.{ℕ, suc, ◌+◌, ℤ, pos, Bool, not, if◌then◌else◌, List, [], ◌∷◌, Option, Some, None, Result, Ok, Err, replicate, slice_get, slice_index_or, slice_set}
 use Rattle.std.specs.Int.{w64, cast_unsigned}
 use Rattle.ib_mem.specs.Memory.{cleared, loaded, stored}
 use Rattle.ib_meaning.specs.declared.fault.FaultKind.{FaultKind}

@@ -1,8 +1,6 @@
 -- What a run comes to from what is at hand and what waits for it, as the source meaning says it.
-use Rattle.std.specs.Prelude.{◌≡◌, ℕ, suc, ◌+◌, ◌<◌, ℤ, pos, Bool, if◌then◌else◌, not, List, [], ◌∷◌, Result}
-use Rattle.ib_meaning.specs.declared.place.Place.{Place}
-use Rattle.ib_meaning.specs.Agreement.{Report, More, Over, Returned, Faulted}
-use Rattle.c_typed.specs.Tree as t
+use Rattle.std.specs.Prelude.{◌≡◌, ℕ, ◌<◌, ℤ, pos, if◌then◌else◌, not, List, [], ◌∷◌}
+use Rattle.ib_meaning.specs.Agreement.{Report, More, Over, Faulted}
 use Rattle.c_typed.specs.Tree.{Exp, Exps, Stm, Stms}
 use Rattle.c_typed.specs.Program.{Program, place_of}
 use Rattle.c_typed.specs.Values.{converted, is_true, truth, ranked, operated, signed, element}

@@ -15,7 +15,7 @@ use Rattle.c_interp.specs.declared.frame.Halt.{Halt}
 use Rattle.c_interp.specs.declared.frame.Halt.TheVariants.{Wants, Over}
 use Rattle.c_interp.specs.declared.frame.Pause.{Pause}
 use Rattle.c_interp.specs.declared.frame.Pause.TheVariants.{Asks, Halts}
-use Rattle.c_interp.specs.Pending.{Task, Machine, Move, Goes}
+use Rattle.c_interp.specs.Pending.{Machine, Move, Goes}
 use Rattle.c_interp.specs.Outcomes.{outcome, comes_to}
 use Rattle.c_interp.specs.Views.{ask_of, want_of}
 use Rattle.c_interp.specs.Weights.{work}

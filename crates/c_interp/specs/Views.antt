@@ -3,7 +3,7 @@ use Rattle.std.specs.Prelude.{List, map, Option, Some, None}
 use Rattle.std.specs.Borrow.{Bor}
 use Rattle.c_typed.specs.declared.expr.Expr.{Expr}
 use Rattle.c_typed.specs.declared.stmt.Stmt.{Stmt}
-use Rattle.c_typed.specs.Tree.{Exps, Maybe, missing, given, Stm, Stms, stms, while_loop, do_while, for_loop, if_then, if_else}
+use Rattle.c_typed.specs.Tree.{Maybe, missing, given, Stm, Stms, stms, while_loop, do_while, for_loop, if_then, if_else}
 use Rattle.c_typed.specs.Views.{expr_of, list_exps, stmt_of}
 use Rattle.c_interp.specs.declared.frame.Turns as r
 use Rattle.c_interp.specs.declared.frame.Caller as rc

@@ -11,6 +11,8 @@ mod machine;
 mod running;
 mod source;
 mod statements;
+#[cfg(test)]
+mod tests;
 mod values;
 
 pub use interpreting::interpret;

@@ -1,4 +1,4 @@
-use Rattle.std.proofs.Common.{rules, arith}
+use Rattle.std.proofs.Common.{rules}
 use Rattle.c_interp.specs.Machines.{machine_of}
 use Rattle.c_interp.specs.Programs.{program_of}
 use Rattle.c_interp.specs.Running.{move_run}

@@ -11,8 +11,6 @@ mod machine;
 mod running;
 mod source;
 mod statements;
-#[cfg(test)]
-mod tests;
 mod values;
 
 pub use interpreting::interpret;

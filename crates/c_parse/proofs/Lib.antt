@@ -1,14 +1,2 @@
-mod Tokens
-mod Complete
-mod Starts
-mod ExpressionLemmas
-mod DeclarationLemmas
-mod StatementLemmas
-mod Viable
-mod Derives
-mod Sound
-mod SoundStates
-mod Answered
-mod NestingLemmas
-mod StackLemmas
+mod GoalLemmas
 mod RunLemmas

@@ -3,17 +3,19 @@
 ghost use Rattle.std.specs.Prelude.{◌≡◌, ◌++◌, ◌∷◌, [], IfOk, map};
 ghost use Rattle.c_ast.specs.Trees.{name, call, exps};
 ghost use Rattle.c_ast.specs.TreeViews.{type_of, expr_of};
-ghost use Rattle.c_parse.specs.Machine as M;
-ghost use Rattle.c_parse.specs.Views.{made_of, goal_of, frame_of, frames_of, declaring_of, IsNext, IsTurn};
+ghost use Rattle.parse_machine.specs.Machine as M;
+ghost use Rattle.parse_states.specs.Views.{made_of, goal_of, frame_of, frames_of, declaring_of, IsNext, IsTurn};
 
 use crate::declarations::{begin_type, step_declared, with_init};
-use crate::frames::{Frame, Frames, Goal, Inner, Made, State, Turn, Use};
-use crate::nodes;
-use crate::signs::{assign_op, binary_op, is, is_type, level, postfix_op, prefix_op, step_op};
-use crate::stacks::{alone, inner, pushed, under};
 use crate::statements::{end_part, end_test};
 use c_ast::{AssignOp, BinaryOp, Expr, Init, Keyword, Mark, Tok, Token};
 use ib_base::{Place, Text};
+use parse_states::frames::{Frame, Frames, Goal, Inner, Made, State, Turn, Use};
+use parse_states::nodes;
+use parse_states::signs::{
+    assign_op, binary_op, is, is_type, level, postfix_op, prefix_op, step_op,
+};
+use parse_states::stacks::{alone, inner, pushed, under};
 use std::alloc::{AllocError, Global};
 
 pub fn begins_assign(frames: Frames) -> Result<Frames, AllocError>
@@ -48,7 +50,7 @@ fn shut_frame(frame: Frame) -> Frame
 }
 
 /// What begins with a cast is the left side of no assignment.
-#[tactic(auto, using(crate::proofs::StackLemmas::shut_goal))]
+#[tactic(auto, using(crate::proofs::GoalLemmas::shut_goal))]
 fn shut(alloc: Global, frames: Frames) -> Result<Frames, AllocError>
     ensures { IfOk result (λ made. frames_of made ≡ M.shut (frames_of frames)) }
 {

@@ -4,9 +4,10 @@ ghost use Rattle.std.specs.Prelude.{◌≡◌, IfOk, IfErr, None};
 ghost use Rattle.c_ast.specs.TreeViews.{type_of, stmt_of, unit_of};
 ghost use Rattle.c_ast.specs.Grammar.{IsUnit};
 ghost use Rattle.c_ast.specs.Nesting as N;
-ghost use Rattle.c_parse.specs.Machine as M;
-ghost use Rattle.c_parse.specs.Views.{state_of, head_of, outer_of, sizing_of, IsNext};
-ghost use Rattle.c_parse.specs.Parses.{HaveOneTree, Refuses};
+ghost use Rattle.parse_machine.specs.Machine as M;
+ghost use Rattle.parse_states.specs.Views.{state_of, head_of, outer_of, sizing_of, IsNext};
+ghost use Rattle.c_parse.specs.Parses.{Refuses};
+ghost use Rattle.parse_machine.specs.Told.{HaveOneTree};
 ghost use Rattle.c_parse.specs.Ran.{Ran, IsFinished};
 
 use crate::declarations::{
@@ -14,12 +15,12 @@ use crate::declarations::{
     step_params_done, step_params_open, step_size_open, step_sized, step_sizes, step_typed,
 };
 use crate::expressions::{begin, go_on, step_called, step_opened, step_paren};
-use crate::frames::{Head, Outer, Sizing, State, Use};
-use crate::nesting::too_deep;
-use crate::signs::is;
 use crate::statements::{begin_stmt, settle, step_awaits, step_for_start, step_inside, step_test};
 use c_ast::{Item, Length, Mark, Stmt, Token, Unit};
+use c_nesting::too_deep;
 use ib_base::Place;
+use parse_states::frames::{Head, Outer, Sizing, State, Use};
+use parse_states::signs::is;
 use std::alloc::{AllocError, Global};
 
 /// Why tokens are not parsed.
@@ -138,7 +139,7 @@ fn run(alloc: Global, tokens: &[Token]) -> Result<Unit, ParseErr>
 }
 
 /// The unit of the tokens, in time that is linear in their number. `TooDeep` comes before `Syntax`.
-#[tactic(auto, using(crate::proofs::Answered::one_tree))]
+#[tactic(auto, using(crate::proofs::RunLemmas::one_tree))]
 pub fn parse(alloc: Global, tokens: &[Token]) -> Result<Unit, ParseErr>
     ensures ok { IfOk result (λ unit. IsUnit tokens.now (unit_of unit)) }
     ensures only { HaveOneTree tokens.now }

@@ -16,7 +16,7 @@ use Rattle.c_ast.specs.Grammar.{IsUnit}
 use Rattle.c_ast.specs.Nesting.{too_deep}
 use Rattle.c_ast.specs.Trees.{Top}
 use Rattle.c_lex.specs.Lexed.{end_place}
-use Rattle.c_parse.specs.Parses.{IsWrongAt}
+use Rattle.parse_machine.specs.Told.{IsWrongAt}
 use Rattle.first_form.specs.declared.program.Program.{Program}
 use Rattle.first_form.specs.FirstForm.{IsFirstForm}
 use Rattle.first_form.specs.Meaning.{source_meaning}

@@ -8,8 +8,6 @@ mod notes;
 mod run;
 mod status;
 mod success;
-#[cfg(test)]
-mod tests;
 mod top;
 mod words;
 

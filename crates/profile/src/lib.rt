@@ -7,7 +7,5 @@ mod effects;
 mod execution;
 mod progress;
 mod tallies;
-#[cfg(test)]
-mod tests;
 
 pub use counting::run_counting;

@@ -9,8 +9,6 @@ mod name;
 mod number;
 mod printing;
 mod reading;
-#[cfg(test)]
-mod tests;
 
 pub use error::ProfErr;
 pub use printing::print_profile;

@@ -17,8 +17,6 @@ mod sim;
 mod site;
 mod start;
 mod store;
-#[cfg(test)]
-mod tests;
 mod tick;
 mod times;
 mod word;

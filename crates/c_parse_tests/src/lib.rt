@@ -1,0 +1,5 @@
+//! Tests of the parser on sources.
+#![tactic(auto)]
+
+#[cfg(test)]
+mod tests;

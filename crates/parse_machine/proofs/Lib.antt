@@ -1,0 +1,11 @@
+pub mod Tokens
+pub mod Complete
+pub mod Starts
+pub mod ExpressionLemmas
+pub mod DeclarationLemmas
+pub mod StatementLemmas
+pub mod Viable
+pub mod Derives
+pub mod Sound
+pub mod SoundStates
+pub mod Answered

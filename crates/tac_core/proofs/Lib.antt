@@ -2,7 +2,9 @@ pub mod Apart
 pub mod Cover
 pub mod Found
 pub mod Lists
+pub mod Named
 pub mod Pairs
+pub mod Restored
 pub mod Same
 pub mod Steady
 pub mod Through

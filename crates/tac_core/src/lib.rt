@@ -15,6 +15,7 @@ mod formed;
 mod labels;
 mod live;
 mod matching;
+mod names;
 mod program;
 mod regs;
 mod rules;

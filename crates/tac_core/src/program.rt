@@ -35,11 +35,15 @@ impl TacProgram {
 
     /// The program of these parts, or `None` where they break a rule. Running it for more steps only shows more.
     #[tactic(auto, using(crate::proofs::Steady::tac_steady))]
-    pub fn assemble(image: Vec<u8>, places: Vec<Place>, funcs: Vec<TacFunc>) -> Option<TacProgram>
+    pub fn assemble(
+        image: Vec<u8>,
+        places: Vec<Place>,
+        mut funcs: Vec<TacFunc>,
+    ) -> Option<TacProgram>
         ensures exact { let parts : Program = record { image = image.items; places = places.items; funcs = funcs.items } in MatchOption result (IsValid parts → ⊥) (λ p. (p ≡ parts) × IsValid parts) }
         ensures steady { IfSome result (λ p. IsSteady (tac_meaning p)) }
     {
-        if keeps_rules(image.len(), places.len(), funcs.as_slice()) {
+        if keeps_rules(image.len(), places.len(), funcs.as_mut_slice()) {
             Some(TacProgram {
                 image: Items::from_vec(image),
                 places: Items::from_vec(places),

@@ -1,11 +1,11 @@
 ghost use Rattle.std.specs.Prelude.{◌≡◌, ◌≢◌, ◌<◌, ◌≤◌, ◌||◌, ◌↔◌, IsTrue, bytes_eq, length};
 ghost use Rattle.tac_core.specs.Program.{main_name};
 ghost use Rattle.std.specs.List.{All, Any};
-ghost use Rattle.tac_core.specs.Rules.{is_letter, is_digit, IsName, IsGoodBlock, AreDistinct, IsGoodFunc, NamesDiffer, IsMain, KeepsRules};
+ghost use Rattle.tac_core.specs.Rules.{is_letter, is_digit, IsName, IsGoodBlock, AreDistinct, IsGoodFunc, IsMain, KeepsRules};
 
 use crate::code::{Block, TacFunc};
+use crate::names::names_differ;
 use crate::rules::{are_registers, is_good_end, is_good_op};
-use ib_base::Text;
 
 const MOST_OPS: usize = 512;
 
@@ -98,29 +98,6 @@ fn is_good_func(places: usize, funcs: &[TacFunc], func: &TacFunc) -> bool
         && has_good_blocks(places, funcs, func)
 }
 
-fn is_other(name: &Text, func: &TacFunc) -> bool
-    ensures { IsTrue result ↔ (func.now.name ≢ name.now) }
-{
-    !func.name.equals(name)
-}
-
-fn is_new(earlier: &[TacFunc], name: &Text) -> bool
-    ensures { IsTrue result ↔ All (λ f. f.name ≢ name.now) earlier.now }
-{
-    earlier.iter().all(|func| is_other(name, func))
-}
-
-fn names_differ(funcs: &[TacFunc]) -> bool
-    ensures { IsTrue result ↔ NamesDiffer funcs.now }
-{
-    for (i, func) in funcs.iter().enumerate() {
-        if !is_new(&funcs[..i], &func.name) {
-            return false;
-        }
-    }
-    true
-}
-
 pub fn is_named_main(func: &TacFunc) -> bool
     ensures { result ≡ bytes_eq main_name func.now.name }
 {
@@ -139,12 +116,19 @@ fn has_main(funcs: &[TacFunc]) -> bool
     funcs.iter().any(is_main)
 }
 
-/// Whether a program with so many bytes and so many places and these functions keeps every rule.
-pub fn keeps_rules(image: usize, places: usize, funcs: &[TacFunc]) -> bool
-    ensures { IsTrue result ↔ KeepsRules image places funcs.now }
+fn keeps_other_rules(image: usize, places: usize, funcs: &[TacFunc]) -> bool
+    ensures { IsTrue result ↔ ((image ≤ 524288) × All (IsGoodFunc places funcs.now) funcs.now × Any IsMain funcs.now) }
 {
     image <= MOST_IMAGE
         && funcs.iter().all(|func| is_good_func(places, funcs, func))
-        && names_differ(funcs)
         && has_main(funcs)
+}
+
+/// Whether a program with so many bytes and so many places and these functions keeps every rule. The functions come back
+/// as they were.
+pub fn keeps_rules(image: usize, places: usize, funcs: &mut [TacFunc]) -> bool
+    ensures answer { IsTrue result ↔ KeepsRules image places funcs.old }
+    ensures kept { funcs.new ≡ funcs.old }
+{
+    keeps_other_rules(image, places, funcs) && names_differ(funcs)
 }

@@ -1,6 +1,6 @@
 use Rattle.std.proofs.Common.{◌≢◌, refl}
 use Rattle.tac_core.proofs.Pairs.{pairs_earlier, pairs_more}
-use Rattle.tac_core.proofs.shape.names_differ.Goals as goal
+use Rattle.tac_core.proofs.names.pairs_differ.Goals as goal
 
 pub returns-then-not-is_new : goal.returns-then-not-is_new
 returns-then-not-is_new c =

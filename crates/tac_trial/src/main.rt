@@ -62,5 +62,6 @@ fn main(rt: HostRuntime) -> io::Result<()> {
     show_loop(&rt)?;
     timed::sizes(&rt, 1, 200_000)?;
     timed::sizes(&rt, 1_000, 200)?;
+    timed::sizes(&rt, 100_000, 2)?;
     time_loops(&rt)
 }

@@ -10,5 +10,5 @@ mod statements;
 #[cfg(test)]
 mod tests;
 
-pub use declared::{param_type, shape_of, written};
+pub use declared::{is_bad_length, param_type, shape_of, written};
 pub use homes::{FunctionHomes, Given, function_homes};

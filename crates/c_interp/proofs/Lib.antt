@@ -8,4 +8,3 @@ pub mod Rows
 pub mod Runs
 pub mod Settling
 pub mod Spending
-pub mod Widths

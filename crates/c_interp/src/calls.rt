@@ -6,8 +6,8 @@ ghost use Rattle.c_interp.specs.Views.{move_of};
 
 use crate::frame::{Caller, Frame, Move};
 use crate::machine::Machine;
-use crate::values::{in_frame, size_of};
 use c_typed::{Function, Home, Param};
+use c_values::{in_frame, size_of};
 use ib_base::FaultKind;
 use sqlite_items::Items;
 use std::alloc::{AllocError, Global};

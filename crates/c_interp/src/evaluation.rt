@@ -8,8 +8,8 @@ ghost use Rattle.c_interp.specs.Views.{move_of};
 use crate::frame::{Ask, Frame, Move, Task};
 use crate::machine::{Machine, give};
 use crate::source::Source;
-use crate::values::{converted, operated};
 use c_typed::{Expr, Operation, ValueType};
+use c_values::{converted, operated};
 use std::alloc::AllocError;
 
 /// The first of some expressions, and the others.

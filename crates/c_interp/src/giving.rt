@@ -11,8 +11,8 @@ use crate::frame::{Ask, Exit, Frame, Move, Phase, Want};
 use crate::machine::{Machine, give, given_or};
 use crate::source::Source;
 use crate::statements::{eval, exec, leave, turns_in};
-use crate::values::{converted, element, is_true, operated, signed, truth};
 use c_typed::{Expr, Operation, Stmt, ValueType};
+use c_values::{converted, element, is_true, operated, signed, truth};
 use std::alloc::AllocError;
 
 impl<'a> Machine<'a> {

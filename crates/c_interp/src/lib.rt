@@ -11,7 +11,6 @@ mod machine;
 mod running;
 mod source;
 mod statements;
-mod values;
 
 pub use interpreting::interpret;
 pub use source::Source;

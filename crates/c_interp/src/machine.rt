@@ -9,8 +9,8 @@ ghost use Rattle.c_interp.specs.Views.{frame_of, task_of, move_of};
 
 use crate::arguments::Arguments;
 use crate::frame::{Frame, Move, Task};
-use crate::values::{converted, size_of, width_of};
 use c_typed::{Expr, ValueType};
+use c_values::{converted, size_of, width_of};
 use ib_base::{FaultKind, wrap};
 use ib_mem::Memory;
 use ib_run::Stack;

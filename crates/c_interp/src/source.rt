@@ -1,7 +1,7 @@
 ghost use Rattle.std.specs.Prelude.{◌≡◌, slice_index_or};
 
-use crate::values::in_frame;
 use c_typed::{Function, Storage};
+use c_values::in_frame;
 use ib_base::Place;
 
 /// What of a typed program a run needs: its functions with a body, the addresses of its globals and of the strings that are

@@ -8,7 +8,8 @@ use c_ast::Base;
 use c_typed::{Arithmetic, Comparison, Operation, Rank, Reach, Sign, ValueType};
 use ib_base::{Cmp, FaultKind, Width, compare, div, rem, shift_left, shift_right, wrap};
 
-pub(crate) fn width_of(ty: ValueType) -> Width
+/// How wide a value of the type is.
+pub fn width_of(ty: ValueType) -> Width
     ensures { result ≡ v.width_of ty }
 {
     match ty {
@@ -21,7 +22,7 @@ pub(crate) fn width_of(ty: ValueType) -> Width
 }
 
 /// How many bytes a value of the type takes in memory.
-pub(crate) fn size_of(ty: ValueType) -> u8
+pub fn size_of(ty: ValueType) -> u8
     ensures bytes { result ≡ size_of ty }
     ensures access { IsAccessWidth result }
 {
@@ -32,13 +33,15 @@ pub(crate) fn size_of(ty: ValueType) -> u8
     }
 }
 
-pub(crate) fn converted(ty: ValueType, x: i64) -> i64
+/// A number as a value of the type.
+pub fn converted(ty: ValueType, x: i64) -> i64
     ensures { result ≡ v.converted ty x }
 {
     wrap(width_of(ty), i128::from(x))
 }
 
-pub(crate) fn is_true(x: i64) -> bool
+/// Whether a condition with this value holds.
+pub fn is_true(x: i64) -> bool
     ensures { result ≡ v.is_true x }
 {
     match x {
@@ -47,13 +50,15 @@ pub(crate) fn is_true(x: i64) -> bool
     }
 }
 
-pub(crate) fn truth(is: bool) -> i64
+/// What a comparison gives: 1 where it holds, 0 where not.
+pub fn truth(is: bool) -> i64
     ensures { result ≡ v.truth is }
 {
     if is { 1 } else { 0 }
 }
 
-pub(crate) fn ranked(rank: Rank) -> Width
+/// How wide the numbers are that an operation of this rank works on.
+pub fn ranked(rank: Rank) -> Width
     ensures { result ≡ v.ranked rank }
 {
     match rank {
@@ -112,14 +117,14 @@ fn comparison(op: Comparison, x: i64, y: i64) -> bool
 }
 
 /// The address so many bytes further on.
-pub(crate) fn further(address: i64, bytes: i64) -> i64
+pub fn further(address: i64, bytes: i64) -> i64
     ensures { result ≡ v.further address bytes }
 {
     wrap(Width::W8, i128::from(address) + i128::from(bytes))
 }
 
 /// The address so many bytes behind the start of a frame.
-pub(crate) fn in_frame(base: u32, offset: u64) -> i64
+pub fn in_frame(base: u32, offset: u64) -> i64
     ensures { result ≡ v.further (pos base) (pos offset) }
 {
     wrap(Width::W8, i128::from(base) + i128::from(offset))
@@ -140,7 +145,8 @@ fn distance(size: u32, x: i64, y: i64) -> Result<i64, FaultKind>
     quotient(Rank::Long, bytes, i64::from(size))
 }
 
-pub(crate) fn operated(op: Operation, x: i64, y: i64) -> Result<i64, FaultKind>
+/// What an operation of two operands gives, or the fault that it is.
+pub fn operated(op: Operation, x: i64, y: i64) -> Result<i64, FaultKind>
     ensures { result ≡ v.operated op x y }
 {
     match op {
@@ -156,7 +162,8 @@ pub(crate) fn operated(op: Operation, x: i64, y: i64) -> Result<i64, FaultKind>
     }
 }
 
-pub(crate) fn signed(op: Sign, rank: Rank, x: i64) -> i64
+/// `-` or `~` of a number, at the width of the rank.
+pub fn signed(op: Sign, rank: Rank, x: i64) -> i64
     ensures { result ≡ v.signed op (v.ranked rank) x }
 {
     match op {
@@ -174,8 +181,8 @@ fn in_bounds(reach: Reach, length: u64, index: i64) -> bool
     }
 }
 
-/// The address of an element of the array that begins there.
-pub(crate) fn element(
+/// The address of an element of the array that begins there, or `Bounds`.
+pub fn element(
     array: i64,
     length: u64,
     size: u32,

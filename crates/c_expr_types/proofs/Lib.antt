@@ -1,0 +1,4 @@
+mod ArgumentLemmas
+mod ListNodes
+mod PlainEffects
+mod Weights

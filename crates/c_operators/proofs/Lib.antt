@@ -1,0 +1,5 @@
+pub mod JudgingLemmas
+mod CallLemmas
+mod NoteLemmas
+pub mod PartLemmas
+mod TypedRows

@@ -1,0 +1,30 @@
+use c_typed::{Expr, Storage, ValueType};
+
+/// A declared array.
+#[derive(Clone, Copy)]
+pub struct ArrayAt {
+    pub element: ValueType,
+    pub storage: Storage,
+    pub length: u64,
+}
+
+/// What an expression is: a value, a variable or other place, an array, or a call that gives no
+/// value.
+#[derive(Drop)]
+pub enum Designated {
+    Value(Expr),
+    Slot { ty: ValueType, slot: u32 },
+    /// What lies at an address.
+    Cell { ty: ValueType, address: Expr },
+    /// An element of a declared array.
+    Element { array: ArrayAt, index: Expr },
+    Array(ArrayAt),
+    NoValue(Expr),
+}
+
+/// Where a value can be stored.
+#[derive(Drop)]
+pub enum Target {
+    Slot { ty: ValueType, slot: u32 },
+    Cell { ty: ValueType, address: Expr },
+}

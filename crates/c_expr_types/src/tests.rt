@@ -66,32 +66,20 @@ fn unary(alloc: Global, col: u32, op: UnaryOp, operand: Expr) -> Result<Expr, Al
     })
 }
 
-/// Functions `int f(int)` and `void v(void)`.
-fn functions<'s>(
-    alloc: Global,
-    params: &'s [ValueType],
-) -> Result<Table<'static, Function<'s>>, AllocError> {
-    let f = Function {
-        result: INT,
-        params,
-        callee: Callee::Body(0),
-    };
-    let v = Function {
-        result: ValueType::Base(Base::Void),
-        params: &[],
-        callee: Callee::Body(1),
-    };
-    let mut functions = Table::new(alloc);
-    functions.declare(b"f", f)?;
-    functions.declare(b"v", v)?;
-    Ok(functions)
-}
+const F: Function<'static> = Function {
+    result: INT,
+    params: &[INT],
+    callee: Callee::Body(0),
+};
 
-/// Variables `int x`, `int *p` and `int a[3]`, beside the functions.
-fn scope<'s>(
-    alloc: Global,
-    functions: &'s Table<'static, Function<'s>>,
-) -> Result<Scope<'static, 's>, AllocError> {
+const V: Function<'static> = Function {
+    result: ValueType::Base(Base::Void),
+    params: &[],
+    callee: Callee::Body(1),
+};
+
+/// Declares `int x`, `int *p` and `int a[3]`.
+fn declare_variables(scope: &mut Scope<'_, '_>) -> Result<(), AllocError> {
     let x = Variable {
         shape: Shape::Scalar(INT),
         lives: Lives::InSlot(0),
@@ -107,27 +95,51 @@ fn scope<'s>(
         },
         lives: Lives::InMemory(Storage::Frame(0)),
     };
-    let mut scope = Scope::new(alloc, functions);
-    scope.enter(alloc)?;
     scope.declare(b"x", x)?;
     scope.declare(b"p", p)?;
     scope.declare(b"a", a)?;
-    Ok(scope)
+    Ok(())
 }
 
-/// The value of an expression, and the breach that is answered.
-fn judged(alloc: Global, e: &Expr) -> Result<(Option<c_typed::Expr>, Option<Breach>), AllocError> {
-    let params = [INT];
-    let functions = functions(alloc, &params)?;
-    let scope = scope(alloc, &functions)?;
+/// What an expression means, if it breaks no rule, and the breach that is answered.
+#[derive(Drop)]
+struct Found {
+    typed: Option<c_typed::Expr>,
+    first: Option<Breach>,
+}
+
+fn judged_in<'a>(
+    alloc: Global,
+    functions: &Table<'a, Function<'_>>,
+    for_effect: bool,
+    e: &'a Expr,
+) -> Result<Found, AllocError> {
+    let mut scope = Scope::new(alloc, functions);
+    scope.enter(alloc)?;
+    declare_variables(&mut scope)?;
     let mut notes = Notes::new(alloc);
-    let typed = value(alloc, &scope, &mut notes, e)?;
-    Ok((typed, notes.first()))
+    let typed = if for_effect {
+        effect(alloc, &scope, &mut notes, e)?
+    } else {
+        value(alloc, &scope, &mut notes, e)?
+    };
+    Ok(Found {
+        typed,
+        first: notes.first(),
+    })
+}
+
+/// Beside the variables there are functions `int f(int)` and `void v(void)`.
+fn judged(alloc: Global, for_effect: bool, e: &Expr) -> Result<Found, AllocError> {
+    let mut functions = Table::new(alloc);
+    functions.declare(b"f", F)?;
+    functions.declare(b"v", V)?;
+    judged_in(alloc, &functions, for_effect, e)
 }
 
 /// The number of the broken rule that is answered and the column of its anchor, or zeros.
 fn breach(alloc: Global, e: Expr) -> Result<(u8, u32), AllocError> {
-    match judged(alloc, &e)?.1 {
+    match judged(alloc, false, &e)?.first {
         Some(breach) => Ok((breach.rule.number(), breach.place.col)),
         None => Ok((0, 0)),
     }
@@ -161,7 +173,7 @@ fn the_first_broken_rule_is_answered(rt: HostRuntime) -> Result<(), AllocError> 
 
 /// What is judged, where no rule is broken.
 fn typed(alloc: Global, e: Expr) -> Result<Option<c_typed::Expr>, AllocError> {
-    Ok(judged(alloc, &e)?.0)
+    Ok(judged(alloc, false, &e)?.typed)
 }
 
 fn operation(alloc: Global, e: Expr) -> Result<Option<Operation>, AllocError> {
@@ -198,15 +210,11 @@ fn a_call_may_give_no_value_where_it_stands_for_what_it_does(
     rt: HostRuntime,
 ) -> Result<(), AllocError> {
     let alloc = rt.alloc();
-    let params = [INT];
-    let functions = functions(alloc, &params)?;
-    let scope = scope(alloc, &functions)?;
     let e = call(alloc, 1, b"v", 0)?;
-    let mut notes = Notes::new(alloc);
-    let typed = effect(alloc, &scope, &mut notes, &e)?;
-    assert!(rt; matches!(typed, Some(c_typed::Expr::Call { function: 1, .. })));
-    assert!(rt; notes.first().is_none());
-    let typed = value(alloc, &scope, &mut notes, &e)?;
-    assert!(rt; typed.is_none() && notes.first().is_some());
+    let done = judged(alloc, true, &e)?;
+    assert!(rt; matches!(done.typed, Some(c_typed::Expr::Call { function: 1, .. })));
+    assert!(rt; done.first.is_none());
+    let used = judged(alloc, false, &e)?;
+    assert!(rt; used.typed.is_none() && used.first.is_some());
     Ok(())
 }

@@ -1,6 +1,8 @@
 //! What the operations of typed programs give.
 #![tactic(auto)]
 
+#[cfg(test)]
+mod tests;
 mod values;
 
 pub use values::{

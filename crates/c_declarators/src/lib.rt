@@ -1,0 +1,8 @@
+//! Which rules declarators and parameters break by themselves.
+#![tactic(auto)]
+
+mod declarators;
+#[cfg(test)]
+mod tests;
+
+pub use declarators::{is_bad_declarator, is_bad_param, is_on_void};

@@ -1,0 +1,5 @@
+pub mod NameLemmas
+pub mod TableLemmas
+pub mod NoteLemmas
+mod TypeLemmas
+mod LoopLemmas

@@ -1,0 +1,3 @@
+mod AlsoLemmas
+mod ArrayLemmas
+mod ListLemmas

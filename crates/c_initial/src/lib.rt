@@ -1,0 +1,10 @@
+//! What globals hold at first, or the rules that their initialisers break.
+#![tactic(auto)]
+
+mod constants;
+mod initial;
+mod parts;
+#[cfg(test)]
+mod tests;
+
+pub use initial::global_data;

@@ -5,8 +5,6 @@ mod heads;
 mod judging;
 mod names;
 mod tables;
-#[cfg(test)]
-mod tests;
 mod unit;
 
 pub use heads::Head;

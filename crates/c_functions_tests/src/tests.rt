@@ -1,5 +1,5 @@
-use crate::{Head, bodies, known, lacks_main, prototypes, redeclared, with_body};
 use c_ast::{Base, CType, Declarator, FunctionHead, Init, Item, Length, Param, ParamName, Unit};
+use c_functions::{Head, bodies, known, lacks_main, prototypes, redeclared, with_body};
 use c_operators::notes::Notes;
 use c_operators::scope::Callee;
 use ib_base::{Place, Text};
@@ -13,37 +13,72 @@ enum Row {
     Body(&'static [u8]),
 }
 
+/// The parameters of a head, by their types.
+#[derive(Clone, Copy)]
+enum Params {
+    Nothing,
+    /// One, without a name.
+    One(Base),
+    /// The first has no name, the second is `b`.
+    Two(Base, Base),
+    /// So many of type `int`, without names.
+    Nameless(usize),
+    /// Two of type `int`, both `a`.
+    Twice,
+}
+
 fn place(line: u32) -> Place {
     Place { line, col: 1 }
 }
 
-/// A head whose parameters have the types and names of a list; one without bytes has no name.
+fn param(alloc: Global, base: Base, name: &[u8]) -> Result<Param, AllocError> {
+    let name = if name.is_empty() {
+        ParamName::Unnamed
+    } else {
+        ParamName::Named(Text::from_bytes(alloc, name)?)
+    };
+    Ok(Param {
+        place: place(1),
+        kind: CType::Base(base),
+        name,
+        length: Length::Scalar,
+    })
+}
+
+fn params_of(alloc: Global, params: Params) -> Result<Vec<Param>, AllocError> {
+    let mut list = Vec::new(alloc);
+    match params {
+        Params::Nothing => {}
+        Params::One(base) => list.push(param(alloc, base, b"")?)?,
+        Params::Two(first, second) => {
+            list.push(param(alloc, first, b"")?)?;
+            list.push(param(alloc, second, b"b")?)?;
+        }
+        Params::Nameless(count) => {
+            for _ in 0..count {
+                list.push(param(alloc, Base::Int, b"")?)?;
+            }
+        }
+        Params::Twice => {
+            list.push(param(alloc, Base::Int, b"a")?)?;
+            list.push(param(alloc, Base::Int, b"a")?)?;
+        }
+    }
+    Ok(list)
+}
+
 fn head(
     alloc: Global,
     line: u32,
     gives: CType,
     name: &[u8],
-    params: &[(Base, &[u8])],
+    params: Params,
 ) -> Result<FunctionHead, AllocError> {
-    let mut list = Vec::new(alloc);
-    for (base, bytes) in params {
-        let name = if bytes.is_empty() {
-            ParamName::Unnamed
-        } else {
-            ParamName::Named(Text::from_bytes(alloc, bytes)?)
-        };
-        list.push(Param {
-            place: place(line),
-            kind: CType::Base(*base),
-            name,
-            length: Length::Scalar,
-        })?;
-    }
     Ok(FunctionHead {
         place: place(line),
         result: gives,
         name: Text::from_bytes(alloc, name)?,
-        params: list,
+        params: params_of(alloc, params)?,
     })
 }
 
@@ -63,9 +98,9 @@ fn item(alloc: Global, line: u32, row: Row) -> Result<Item, AllocError> {
     let int = CType::Base(Base::Int);
     match row {
         Row::Global(name) => global(alloc, line, name),
-        Row::Prototype(name) => Ok(Item::Prototype(head(alloc, line, int, name, &[])?)),
+        Row::Prototype(name) => Ok(Item::Prototype(head(alloc, line, int, name, Params::Nothing)?)),
         Row::Body(name) => Ok(Item::Function {
-            head: head(alloc, line, int, name, &[])?,
+            head: head(alloc, line, int, name, Params::Nothing)?,
             body: Vec::new(alloc),
         }),
     }
@@ -74,10 +109,10 @@ fn item(alloc: Global, line: u32, row: Row) -> Result<Item, AllocError> {
 /// The items stand in lines of their own, from line 1 on.
 fn file(alloc: Global, rows: &[Row]) -> Result<Unit, AllocError> {
     let mut items = Vec::new(alloc);
-    let mut line = 1;
+    let mut line = 1u32;
     for row in rows {
         items.push(item(alloc, line, *row)?)?;
-        line += 1;
+        line = line.checked_add(1).ok_or(AllocError)?;
     }
     Ok(Unit { items })
 }
@@ -113,15 +148,10 @@ fn names_are_declared_once(rt: HostRuntime) -> Result<(), AllocError> {
 }
 
 /// The number of the rule that a head breaks, else 0.
-fn rule_of(
-    alloc: Global,
-    gives: CType,
-    name: &[u8],
-    params: &[(Base, &[u8])],
-) -> Result<u8, AllocError> {
-    let written = head(alloc, 1, gives, name, params)?;
+fn rule_of(alloc: Global, written: &FunctionHead) -> Result<u8, AllocError> {
+    let seen = Head::new(alloc, written)?;
     let mut notes = Notes::new(alloc);
-    let fine = Head::new(alloc, &written)?.judge(alloc, &mut notes)?;
+    let fine = seen.judge(alloc, &mut notes)?;
     match notes.first() {
         Some(breach) if !fine => Ok(breach.rule.number()),
         Some(_) => Ok(255),
@@ -132,26 +162,27 @@ fn rule_of(
 #[test]
 fn heads_are_judged(rt: HostRuntime) -> Result<(), AllocError> {
     let alloc = rt.alloc();
-    let a: (Base, &[u8]) = (Base::Int, b"a");
-    let b: (Base, &[u8]) = (Base::Long, b"b");
-    let none: (Base, &[u8]) = (Base::Char, b"");
-    let void: (Base, &[u8]) = (Base::Void, b"c");
-    for (name, params, rule) in [
-        (b"f".as_slice(), [a, b, none].as_slice(), 0),
-        (b"f", &[a, b, a], 2),
-        (b"f", &[none, none], 0),
-        (b"f", &[a, void], 5),
-        (b"f", &[none; 8], 0),
-        (b"f", &[none; 9], 4),
-        (b"main", &[], 0),
-        (b"main", &[a], 4),
+    for (name, gives, params, rule) in [
+        (
+            b"f".as_slice(),
+            Base::Int,
+            Params::Two(Base::Int, Base::Long),
+            0,
+        ),
+        (b"f", Base::Int, Params::Twice, 2),
+        (b"f", Base::Int, Params::Two(Base::Int, Base::Void), 5),
+        (b"f", Base::Void, Params::Nameless(8), 0),
+        (b"f", Base::Int, Params::Nameless(9), 4),
+        (b"main", Base::Int, Params::Nothing, 0),
+        (b"main", Base::Int, Params::One(Base::Int), 4),
+        (b"main", Base::Long, Params::Nothing, 4),
     ] {
-        assert_eq!(rt; rule_of(alloc, CType::Base(Base::Int), name, params)?, rule);
+        let written = head(alloc, 1, CType::Base(gives), name, params)?;
+        assert_eq!(rt; rule_of(alloc, &written)?, rule);
     }
     let to_void = CType::Pointer(Box::new(alloc, CType::Base(Base::Void))?);
-    assert_eq!(rt; rule_of(alloc, to_void, b"f", &[])?, 5);
-    assert_eq!(rt; rule_of(alloc, CType::Base(Base::Void), b"f", &[])?, 0);
-    assert_eq!(rt; rule_of(alloc, CType::Base(Base::Long), b"main", &[])?, 4);
+    let written = head(alloc, 1, to_void, b"f", Params::Nothing)?;
+    assert_eq!(rt; rule_of(alloc, &written)?, 5);
     Ok(())
 }
 
@@ -196,33 +227,42 @@ fn the_first_body_counts(rt: HostRuntime) -> Result<(), AllocError> {
     Ok(())
 }
 
-/// Whether a prototype is good in a file whose one body is `int f(int a, char)`.
-fn is_good(alloc: Global, written: &FunctionHead) -> Result<bool, AllocError> {
-    let int = CType::Base(Base::Int);
-    let body = head(alloc, 1, int, b"f", &[(Base::Int, b"a"), (Base::Char, b"")])?;
-    let mut made = Vec::new(alloc);
-    made.push(Head::new(alloc, &body)?)?;
-    let bodied = with_body(alloc, &made)?;
-    Ok(Head::new(alloc, written)?.is_good_prototype(&bodied))
+fn is_good_among(
+    alloc: Global,
+    bodies: &[Head<'_>],
+    written: &FunctionHead,
+) -> Result<bool, AllocError> {
+    let bodied = with_body(alloc, bodies)?;
+    let seen = Head::new(alloc, written)?;
+    Ok(seen.is_good_prototype(&bodied))
 }
 
+/// Whether a prototype is good in a file with this one body.
+fn is_good(alloc: Global, body: &FunctionHead, written: &FunctionHead) -> Result<bool, AllocError> {
+    let seen = Head::new(alloc, body)?;
+    let mut made = Vec::new(alloc);
+    made.push(seen)?;
+    is_good_among(alloc, made.as_slice(), written)
+}
+
+/// The one body is `int f(int, char b)`.
 #[test]
 fn prototypes_are_like_what_they_declare(rt: HostRuntime) -> Result<(), AllocError> {
     let alloc = rt.alloc();
-    let int: (Base, &[u8]) = (Base::Int, b"");
-    let char: (Base, &[u8]) = (Base::Char, b"x");
+    let params = Params::Two(Base::Int, Base::Char);
+    let body = head(alloc, 1, CType::Base(Base::Int), b"f", params)?;
     for (name, params, good) in [
-        (b"f".as_slice(), [int, char].as_slice(), true),
-        (b"f", &[char, int], false),
-        (b"f", &[int], false),
-        (b"g", &[int, char], false),
-        (b"putchar", &[int], true),
-        (b"putchar", &[char], false),
-        (b"getchar", &[], true),
-        (b"putint", &[int], false),
+        (b"f".as_slice(), Params::Two(Base::Int, Base::Char), true),
+        (b"f", Params::Two(Base::Char, Base::Int), false),
+        (b"f", Params::One(Base::Int), false),
+        (b"g", Params::Two(Base::Int, Base::Char), false),
+        (b"putchar", Params::One(Base::Int), true),
+        (b"putchar", Params::One(Base::Char), false),
+        (b"getchar", Params::Nothing, true),
+        (b"putint", Params::One(Base::Int), false),
     ] {
         let written = head(alloc, 2, CType::Base(Base::Int), name, params)?;
-        assert_eq!(rt; is_good(alloc, &written)?, good);
+        assert_eq!(rt; is_good(alloc, &body, &written)?, good);
     }
     Ok(())
 }

@@ -105,7 +105,7 @@ fn judged_in<'a>(
     Ok(Found {
         held,
         first: notes.first(),
-        texts: notes.texts().len(),
+        texts: notes.into_parts().0.len(),
     })
 }
 

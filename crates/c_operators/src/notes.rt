@@ -125,17 +125,11 @@ impl<'a> Notes<'a> {
         self.first
     }
 
-    /// The string literals so far, in the order of the source.
-    pub fn texts(&self) -> &[&'a [u8]]
-        ensures { map (λ text. text.now) result.now ≡ self.now.texts }
+    /// The string literals in the order of the source, and the statements' places by their numbers.
+    pub fn into_parts(self) -> (Vec<&'a [u8]>, Vec<Place>)
+        ensures texts { map (λ text. text.now) result.0.items ≡ self.entry.texts }
+        ensures places { result.1.items ≡ self.entry.places }
     {
-        &self.texts
-    }
-
-    /// The statements' places, by their numbers.
-    pub fn into_places(self) -> Vec<Place>
-        ensures { result.items ≡ self.entry.places }
-    {
-        self.places
+        (self.texts, self.places)
     }
 }

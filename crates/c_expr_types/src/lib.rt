@@ -4,8 +4,6 @@
 mod expressions;
 mod names;
 mod parts;
-#[cfg(test)]
-mod tests;
 mod whole;
 
 pub use expressions::{tested_value, value};

@@ -4,8 +4,6 @@
 mod body;
 mod locals;
 mod nodes;
-#[cfg(test)]
-mod tests;
 mod walk;
 
 pub use body::Context;

@@ -1,0 +1,134 @@
+-- What a walk over a file tells of its verdict.
+use Rattle.std.proofs.Common.{◌≡◌, refl, ap, ap₂, sym, ◌∙◌, subst, ℕ, Bool, true, false, not, cond, List, [], ◌∷◌, ◌++◌, Option, Some, None, is_some}
+use Rattle.std.proofs.lemmas.List.{append-nil}
+use Rattle.c_ast.specs.Trees as c
+use Rattle.scopes.specs.Scopes as s
+use Rattle.c_typed.specs.Program.{Program}
+use Rattle.c_functions.specs.Functions.{functions_known, lacks_main, with_body}
+use Rattle.c_operators.specs.declared.rule.Breach.{Breach}
+use Rattle.c_operators.specs.Rules.{Judged, Fine, Broken, breaches, first_from, first_breach, goes_before}
+use Rattle.c_operators.specs.Scopes as scopes
+use Rattle.c_operators.specs.Scopes.{Scope, inner}
+use Rattle.c_operators.specs.Parts.{also}
+use Rattle.c_operators.specs.Judging.{Noted, noted, kept}
+use Rattle.c_operators.proofs.JudgingLemmas.{first_from-join}
+use Rattle.c_program.specs.declared.error.CheckErr.{CheckErr}
+use Rattle.c_program.specs.declared.error.CheckErr.TheVariants.{NoMemory}
+use Rattle.c_program.specs.Limits.{Limited, within, limited, program_of, Refuses}
+use Rattle.c_stmt_types.specs.Keeping.{Seen, Types, Finds, is_empty}
+use Rattle.c_types.specs.Making.{with_items}
+use Rattle.c_types.specs.Units.{Parts, judged, items, whole_breaches, file_start, past_items}
+use Rattle.c_types.specs.Typing.{Verdict, verdict, verdict_of, keeps_rules, breaks_rule, IsTyped, IsBreach, Refused}
+use Rattle.c_types.specs.Views.{Tells}
+use Rattle.c_types.proofs.HeadLemmas.{seen_with}
+
+-- ---- whether something was noted
+
+chosen : (x y : Breach) (ys : List Breach) (b : Bool) → is_some (first_from (Some x) ys) ≡ true → is_some (first_from (Some y) ys) ≡ true →
+    is_some (first_from (cond b (Some y) (Some x)) ys) ≡ true
+chosen x y ys true one other = other
+chosen x y ys false one other = one
+
+stays : (x : Breach) (ys : List Breach) → is_some (first_from (Some x) ys) ≡ true
+stays x [] = refl
+stays x (y ∷ ys) = chosen x y ys (goes_before y x) (stays x ys) (stays y ys)
+
+empty_is : (found : List Breach) → not (is_some (first_from None found)) ≡ is_empty found
+empty_is [] = refl
+empty_is (b ∷ found) = ap not (stays b found)
+
+flipped : (a b : Bool) → a ≡ not b → b ≡ not a
+flipped a true is = ap not (sym is)
+flipped a false is = ap not (sym is)
+
+-- what is found before all others, and what is found behind it
+pub finds_whole : {s0 s1 s2 : Seen} {xs : List Breach} (ys : List Breach) {fits fine : Bool} →
+    s0.first ≡ None → Finds s0 s1 s0.scope xs fits → s2 ≡ record s1 { first = first_from s1.first ys } → is_some s2.first ≡ not fine →
+    Finds s0 s2 s0.scope (xs ++ ys) fine
+finds_whole {s0} {s1} {s2} {xs} ys {fits} {fine} none first next tells =
+    let all : s2 ≡ record s0 { first = first_from s0.first (xs ++ ys) } =
+    next
+    ∙ ap {A = Seen} (λ s. record s { first = first_from s.first ys }) first.noted
+    ∙ ap (λ one. record s0 { first = one }) (sym (first_from-join s0.first xs ys)) in
+    record {
+      noted = all;
+      tells = flipped (is_some s2.first) fine tells ∙ ap (λ s. not (is_some s.first)) all ∙ ap (λ one. not (is_some (first_from one (xs ++ ys)))) none ∙ empty_is (xs ++ ys);
+    }
+
+-- names that are declared twice, as a walk has seen them
+pub noted_in : (before : Noted) {now : Noted} (found : List Breach) (Γ : Scope) (k : ℕ) → now ≡ noted before [] found →
+    seen_with Γ k now ≡ record (seen_with Γ k before) { first = first_from before.first found }
+unfolding noted
+noted_in before {now} found Γ k is =
+    ap (seen_with Γ k) is ∙ ap (λ texts. seen_with Γ k (record before { texts = texts; first = first_from before.first found })) (append-nil before.texts)
+
+-- ---- what a walk tells
+
+-- a walk from the file's start
+pub told : {s0 s1 : Seen} {bodied functions : s.Scope scopes.Function} {no_main : Bool} {answer : Option Parts} {notes : Noted} (unit : List c.Top) →
+    s0 ≡ record { scope = record { scopes = [] ∷ []; functions = functions }; at = file_start; first = None } →
+    functions ≡ functions_known unit → bodied ≡ with_body unit → no_main ≡ lacks_main unit →
+    Types s0 s1 (with_items s0.at unit s0.scope) (past_items unit s0.at) (also (whole_breaches no_main unit) (items bodied s0.scope s0.at unit)) answer →
+    notes ≡ record { texts = s1.at.texts; places = s1.at.places; first = s1.first } →
+    Tells unit answer notes
+told {s0} {s1} {bodied} {functions} {no_main} {answer} {notes} unit start known bodies main h is =
+    let judged_at : Seen → s.Scope scopes.Function → Bool → Judged Parts = λ s b m. also (whole_breaches m unit) (items b s.scope s.at unit) in
+    let begun : s.Scope scopes.Function → Seen = λ fs. record { scope = record { scopes = [] ∷ []; functions = fs }; at = file_start; first = None } in
+    let from_start : s0 ≡ begun (functions_known unit) = start ∙ ap begun known in
+    let same : judged_at s0 bodied no_main ≡ judged unit =
+    ap (λ s. judged_at s bodied no_main) from_start
+    ∙ ap (λ b. judged_at (begun (functions_known unit)) b no_main) bodies
+    ∙ ap (λ m. judged_at (begun (functions_known unit)) (with_body unit) m) main in
+    let behind : s1.at ≡ past_items unit file_start = h.behind ∙ ap {A = Seen} (λ s. past_items unit s.at) from_start in
+    record {
+      means = h.means ∙ ap kept same;
+      first = ap (λ n. n.first) is ∙ h.noted ∙ ap {A = Seen} (λ s. first_from s.first (breaches (judged_at s0 bodied no_main))) from_start ∙ ap (λ j. first_breach (breaches j)) same;
+      places = ap (λ n. n.places) is ∙ ap (λ at. at.places) behind;
+      texts = ap (λ n. n.texts) is ∙ ap (λ at. at.texts) behind;
+    }
+
+-- ---- the answer
+
+some-same : {A : Type 0} {a b : A} → Some a ≡ Some b → a ≡ b
+some-same e = cc
+
+kept-fine : {A : Type 0} (j : Judged A) (a : A) → Some a ≡ kept j → j ≡ Fine a
+kept-fine (Fine b) a e = ap Fine (sym (some-same e))
+kept-fine (Broken found) a e = let no : false ≡ true = cc in cc
+
+kept-none : {A : Type 0} (j : Judged A) → None ≡ kept j → Broken (breaches j) ≡ j
+kept-none (Fine b) e = let no : false ≡ true = cc in cc
+kept-none (Broken found) e = refl
+
+pub no_memory : (said : Verdict) → Refused said NoMemory
+no_memory (keeps_rules said) = tt
+no_memory (breaks_rule None) = tt
+no_memory (breaks_rule (Some breach)) = tt
+
+-- without an answer, by the breach that is noted
+pub refused_broken : {notes : Noted} (error : CheckErr) (unit : List c.Top) → Tells unit None notes → IsBreach notes.first error → Refused (verdict unit) error
+refused_broken {notes} error unit h is =
+    subst (λ j. Refused (verdict_of j (past_items unit file_start)) error) (kept-none (judged unit) h.means)
+    (subst (λ first. IsBreach first error) h.first is)
+
+-- with one, by its limits
+abbrev said_of : Parts → Noted → Limited
+said_of parts notes = limited parts.functions parts.globals notes.texts notes.places
+
+pub verdict_is : {notes : Noted} (unit : List c.Top) (parts : Parts) → Tells unit (Some parts) notes → keeps_rules (said_of parts notes) ≡ verdict unit
+verdict_is {notes} unit parts h =
+    ap₂ (λ texts places. keeps_rules (limited parts.functions parts.globals texts places)) h.texts h.places
+    ∙ ap (λ j. verdict_of j (past_items unit file_start)) (sym (kept-fine (judged unit) parts h.means))
+
+pub laid_out : {notes : Noted} {p : Program} (unit : List c.Top) (parts : Parts) → Tells unit (Some parts) notes →
+    said_of parts notes ≡ within p → verdict unit ≡ keeps_rules (within p)
+laid_out unit parts h is = sym (verdict_is unit parts h) ∙ ap keeps_rules is
+
+pub typed : {notes : Noted} {p : Program} (unit : List c.Top) (parts : Parts) → Tells unit (Some parts) notes →
+    p ≡ program_of parts.functions parts.globals notes.texts notes.places → IsTyped unit p
+typed unit parts h is =
+    (parts, (kept-fine (judged unit) parts h.means, is ∙ ap₂ (λ texts places. program_of parts.functions parts.globals texts places) h.texts h.places))
+
+pub refused_large : {notes : Noted} (error : CheckErr) (unit : List c.Top) (parts : Parts) → Tells unit (Some parts) notes →
+    Refuses (said_of parts notes) error → Refused (verdict unit) error
+refused_large {notes} error unit parts h refuses = subst (λ said. Refused said error) (verdict_is unit parts h) refuses

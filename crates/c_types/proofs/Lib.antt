@@ -1,0 +1,5 @@
+pub mod GlobalLemmas
+pub mod HeadLemmas
+pub mod BodyLemmas
+pub mod ItemLemmas
+pub mod CheckLemmas

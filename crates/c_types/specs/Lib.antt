@@ -1,0 +1,4 @@
+pub mod Units
+pub mod Typing
+pub mod Making
+pub mod Views

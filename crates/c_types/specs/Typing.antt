@@ -1,0 +1,41 @@
+-- What `check` says of a source's tree: its program, or what is wrong with it.
+use Rattle.std.specs.Prelude.{◌≡◌, List, Option, Some, ⊤}
+use Rattle.c_ast.specs.Trees as c
+use Rattle.c_typed.specs.Program.{Program}
+use Rattle.c_operators.specs.declared.rule.Breach.{Breach}
+use Rattle.c_operators.specs.Rules.{first_breach, number_of, Judged, Fine, Broken}
+use Rattle.c_program.specs.declared.error.CheckErr.{CheckErr}
+use Rattle.c_program.specs.declared.error.CheckErr.TheVariants.{Rule, NoMemory}
+use Rattle.c_program.specs.Limits.{program_of, Limited, limited, Refuses}
+use Rattle.c_stmt_types.specs.Statements.{At}
+use Rattle.c_types.specs.Units.{Parts, judged, file_start, past_items}
+
+-- the program of a source that breaks no rule
+abbrev pub program_from : Parts → At → Program
+program_from parts behind = program_of parts.functions parts.globals behind.texts behind.places
+
+-- A tree has at most one program: the relation is a function's graph.
+abbrev pub IsTyped : List c.Top → Program → Type 0
+IsTyped unit program = (parts : Parts) × ((judged unit ≡ Fine parts) × (program ≡ program_from parts (past_items unit file_start)))
+
+pub data Verdict : Type 0 where
+  keeps_rules : Limited → Verdict
+  breaks_rule : Option Breach → Verdict
+
+abbrev pub verdict_of : Judged Parts → At → Verdict
+verdict_of (Broken found) behind = breaks_rule (first_breach found)
+verdict_of (Fine parts) behind = keeps_rules (limited parts.functions parts.globals behind.texts behind.places)
+
+abbrev pub verdict : List c.Top → Verdict
+verdict unit = verdict_of (judged unit) (past_items unit file_start)
+
+-- the answer's rule and place are those of a breach
+abbrev pub IsBreach : Option Breach → CheckErr → Type 0
+IsBreach (Some breach) (Rule rule place) = (rule ≡ number_of breach.rule) × (place ≡ breach.place)
+IsBreach found NoMemory = ⊤
+IsBreach found error = ⊥
+
+-- why a source has no program
+abbrev pub Refused : Verdict → CheckErr → Type 0
+Refused (keeps_rules said) error = Refuses said error
+Refused (breaks_rule found) error = IsBreach found error

@@ -1,0 +1,6 @@
+mod Small
+mod WorkedExpressions
+mod WorkedFiles
+mod WorkedHomes
+mod WorkedLayout
+mod WorkedStatements

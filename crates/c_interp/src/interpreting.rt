@@ -5,6 +5,7 @@ ghost use Rattle.ib_run.specs.OverHost.{OverHost};
 ghost use Rattle.c_typed.specs.Program.{main_in, first_frame};
 ghost use Rattle.c_typed.specs.Views.{function_of};
 ghost use Rattle.c_eval.specs.Meaning.{first_memory};
+ghost use Rattle.c_program.specs.Checked as c;
 ghost use Rattle.c_interp.specs.Machines.{machine_of};
 ghost use Rattle.c_interp.specs.Programs.{program_of};
 ghost use Rattle.c_interp.specs.Moves as m;
@@ -16,6 +17,7 @@ use crate::calls::zeros;
 use crate::frame::{Halt, Move};
 use crate::machine::Machine;
 use crate::source::Source;
+use c_program::Program;
 use c_typed::Function;
 use ib_base::{Host, Outcome, RunErr};
 use ib_mem::Memory;
@@ -170,9 +172,26 @@ fn run_within<'a, H: Host>(
     }
 }
 
-/// Runs a typed program as it stands. A unit of the budget is spent at the start of each turn of a loop, and at each call of
-/// a function of the source. `Spent` says that one more was needed.
+/// Runs a program as it stands. A unit of the budget is spent at the start of each turn of a loop, and at each call of a
+/// function of the source. `Spent` says that one more was needed.
 pub fn interpret<H: Host>(
+    alloc: Global,
+    program: &Program,
+    host: &mut H,
+    budget: u64,
+) -> Result<Outcome, RunErr>
+    ensures ok { IfOk result (λ outcome. OverHost (MeansSo (c.program program.now) budget outcome) (H.world host.old) (H.world host.new)) }
+    ensures broken { OnErr result (OverHost (Begins (c.program program.now) budget) (H.world host.old) (H.world host.new)) }
+    ensures cause { RunCause (H.faults host.old) (H.faults host.new) result }
+    ensures still_sure { H.sure host.old → H.sure host.new }
+    ensures never { H.sure host.old → IsErrOf result RunErr.Host → ⊥ }
+{
+    let source = Source::new(program);
+    run(alloc, &source, host, budget)
+}
+
+/// Runs what a program's parts say.
+fn run<H: Host>(
     alloc: Global,
     source: &Source,
     host: &mut H,

@@ -1,4 +1,4 @@
-//! Typed programs run as they stand.
+//! Programs run as they stand.
 #![tactic(auto)]
 
 mod arguments;
@@ -13,4 +13,3 @@ mod source;
 mod statements;
 
 pub use interpreting::interpret;
-pub use source::Source;

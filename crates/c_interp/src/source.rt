@@ -1,13 +1,14 @@
 ghost use Rattle.std.specs.Prelude.{◌≡◌, slice_index_or};
 
+use c_program::Program;
 use c_typed::{Function, Storage};
 use c_values::in_frame;
 use ib_base::Place;
 
-/// What of a typed program a run needs: its functions with a body, the addresses of its globals and of the strings that are
+/// What of a program a run needs: its functions with a body, the addresses of its globals and of the strings that are
 /// laid out, the memory's bytes from 4096 on, and the places of its statements by their numbers.
 #[derive(Drop)]
-pub struct Source<'a> {
+pub(crate) struct Source<'a> {
     pub functions: &'a [Function],
     pub globals: &'a [u32],
     pub strings: &'a [u32],
@@ -26,10 +27,27 @@ fn number_at(numbers: &[u32], at: u32) -> u32
 }
 
 impl<'a> Source<'a> {
-    ghost use Rattle.std.specs.Prelude.{◌≡◌, pos, slice_index_or};
+    ghost use Rattle.std.specs.Prelude.{◌≡◌, ◌≤◌, pos, length, slice_index_or};
+    ghost use Rattle.std.specs.List.{All};
     ghost use Rattle.c_typed.specs.Program.{place_of};
     ghost use Rattle.c_eval.specs.Doing.{storage};
+    ghost use Rattle.c_program.specs.Checked as c;
     ghost use Rattle.c_interp.specs.Programs.{program_of};
+
+    pub(crate) fn new(program: &'a Program) -> Source<'a>
+        ensures value { program_of result ≡ c.program program.now }
+        ensures image { length result.image.now ≤ 524288 }
+        ensures frames { All (λ f. f.frame ≤ 262144) result.functions.now }
+    {
+        let layout = program.layout();
+        Source {
+            functions: program.typed().functions.as_slice(),
+            globals: layout.globals.as_slice(),
+            strings: layout.strings.as_slice(),
+            image: program.image(),
+            places: program.statements(),
+        }
+    }
 
     /// The place of a statement.
     pub(crate) fn place(&self, number: u32) -> Place

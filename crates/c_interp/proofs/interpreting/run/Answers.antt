@@ -3,7 +3,7 @@ use Rattle.c_interp.specs.Machines.{machine_of}
 use Rattle.c_interp.specs.Programs.{program_of}
 use Rattle.c_interp.specs.Views.{move_of}
 use Rattle.c_interp.proofs.Runs.{means_so, begins_so}
-use Rattle.c_interp.proofs.interpreting.interpret.Goals as goal
+use Rattle.c_interp.proofs.interpreting.run.Goals as goal
 
 pub returns-clause-ok : goal.returns-clause-ok
 returns-clause-ok g c =

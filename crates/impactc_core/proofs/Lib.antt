@@ -1,5 +1,12 @@
+pub mod Checking
+pub mod Completing
+pub mod Forms
 pub mod Fronts
+pub mod Interpreting
 pub mod Noted
+pub mod Plain
 pub mod Ran
+pub mod Reading
+pub mod Refusing
 pub mod Topped
 pub mod Working

@@ -6,7 +6,7 @@ use Rattle.impactc_core.specs.declared.core_err.CoreErr.TheVariants.{Usage as Ba
 use Rattle.impactc_core.specs.declared.status.Status.{Status}
 use Rattle.impactc_core.specs.declared.status.Status.TheVariants.{HostFault, NoMemory}
 use Rattle.impactc_core.specs.declared.success.Success.{Success}
-use Rattle.impactc_core.specs.declared.success.Success.TheVariants.{Ended, Faulted}
+use Rattle.impactc_core.proofs.Plain.{success_plain}
 use Rattle.impactc_core.specs.Answers.{IsPlain}
 use Rattle.impactc_core.specs.Notes.{refusal_note, status_of, note_of}
 use Rattle.impactc_core.specs.Work.{NoteFor, LeavesNote, Leaves, status_behind}
@@ -92,8 +92,7 @@ fault_left old new result leaves =
 
 -- the note of a failing host
 pub host_fault_left : (work : Result Success CoreErr) (old new : World) (result : Status) → status_of work ≡ HostFault → Leaves (codes "host fault\n") HostFault old new result → LeavesNote work old new result
-host_fault_left (Ok (Ended z cycles)) old new result e leaves = cc
-host_fault_left (Ok (Faulted place kind cycles)) old new result e leaves = cc
+host_fault_left (Ok success) old new result e leaves = absurd (subst IsPlain e (success_plain success))
 host_fault_left (Err BadWords) old new result e leaves = cc
 host_fault_left (Err (Source file place fault)) old new result e leaves = cc
 host_fault_left (Err Host) old new result e leaves = fault_left old new result leaves

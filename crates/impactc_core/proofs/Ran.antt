@@ -3,7 +3,7 @@ use Rattle.std.proofs.Common.{◌≡◌, ℕ, zero, suc, ◌≤◌, ℤ, List, [
 use Rattle.std.specs.Prelude.{IfSome}
 use Rattle.ib_meaning.specs.declared.fault.FaultKind.{FaultKind}
 use Rattle.ib_meaning.specs.declared.place.Place.{Place}
-use Rattle.ib_meaning.specs.Agreement.{Finish, Report, More, Over, IsOver, Meaning, Agrees, out_of}
+use Rattle.ib_meaning.specs.Agreement.{Finish, Returned, Faulted, Report, More, Over, IsOver, Meaning, Agrees, out_of}
 use Rattle.ib_meaning.proofs.Agreement.{prints, prefix_trans, same_ends}
 use Rattle.ib_base.specs.World.{World}
 use Rattle.ib_run.specs.OverHost.{HasInput, OverHost}
@@ -17,9 +17,10 @@ use Rattle.wide_sim.specs.Simulation.{Begins, EndsAfter, Simulates}
 use Rattle.first_form.specs.declared.program.Program.{Program}
 use Rattle.first_form.specs.Meaning.{source_meaning}
 use Rattle.first_code.specs.Plain.{IsPlain}
+use Rattle.ib_base.specs.declared.outcome.Outcome.TheVariants as outcome
 use Rattle.impactc_core.specs.declared.success.Success.{Success}
-use Rattle.impactc_core.specs.declared.success.Success.TheVariants.{Ended, Faulted}
-use Rattle.impactc_core.specs.Runs.{BeginsOutput, EndsAlike, code_meaning, finish_of, cycles_of}
+use Rattle.impactc_core.specs.declared.success.Success.TheVariants.{Ran}
+use Rattle.impactc_core.specs.Runs.{BeginsOutput, EndsAlike, code_meaning, outcome_of}
 use Rattle.impactc_core.specs.Work.{EndsCode, RunsProgram}
 
 -- what a host tells of its input leaves some input
@@ -46,22 +47,25 @@ starts code finish zero input left out ends =
     let clash : Over finish out left ≡ More [] input = sym ends.over ∙ at_start code input in cc
 starts code finish (suc cycles) input left out ends = omega arith
 
-ends_code : (code : RawCode) (success : Success) (old new : World) → OverHost (λ input left out. (cycles_of success ≤ 100000000) × EndsAfter (code_meaning code) (finish_of success) (cycles_of success) input left out) old new → EndsCode code success old new
-ends_code code success old new over =
-    let Within : (input left out : List ℕ) → Type 0 = λ input left out. (cycles_of success ≤ 100000000) × EndsAfter (code_meaning code) (finish_of success) (cycles_of success) input left out in
+ends_code : (code : RawCode) (finish : Finish) (cycles : ℕ) (old new : World) → OverHost (λ input left out. (cycles ≤ 100000000) × EndsAfter (code_meaning code) finish cycles input left out) old new → EndsCode code (Ran (outcome_of finish) cycles) old new
+ends_code code finish cycles old new over =
+    let Within : (input left out : List ℕ) → Type 0 = λ input left out. (cycles ≤ 100000000) × EndsAfter (code_meaning code) finish cycles input left out in
     let at = of_some Within old new over in
     record {
-      some = starts code (finish_of success) (cycles_of success) at.0 at.1 over.out at.2.1;
+      finish = finish;
+      cycles = cycles;
+      is = refl;
+      some = starts code finish cycles at.0 at.1 over.out at.2.1;
       few = at.2.0;
-      runs = over_weaken Within (EndsAfter (code_meaning code) (finish_of success) (cycles_of success)) old new over (λ input left out h. h.1);
+      runs = over_weaken Within (EndsAfter (code_meaning code) finish cycles) old new over (λ input left out h. h.1);
     }
 
 -- code that was simulated to its end
-pub ended : (code : RawCode) (result : ℤ) (cycles : ℕ) (old new : World) → OverHost (Simulates (code_meaning code) 100000000 (EndedAfter result cycles)) old new → EndsCode code (Ended result cycles) old new
-ended code result cycles old new over = ends_code code (Ended result cycles) old new over
+pub ended : (code : RawCode) (result : ℤ) (cycles : ℕ) (old new : World) → OverHost (Simulates (code_meaning code) 100000000 (EndedAfter result cycles)) old new → EndsCode code (Ran (outcome.Ended result) cycles) old new
+ended code result cycles old new over = ends_code code (Returned result) cycles old new over
 
-pub reported : (code : RawCode) (place : Place) (kind : FaultKind) (cycles : ℕ) (old new : World) → OverHost (Simulates (code_meaning code) 100000000 (ReportedAfter place kind cycles)) old new → EndsCode code (Faulted place kind cycles) old new
-reported code place kind cycles old new over = ends_code code (Faulted place kind cycles) old new over
+pub reported : (code : RawCode) (place : Place) (kind : FaultKind) (cycles : ℕ) (old new : World) → OverHost (Simulates (code_meaning code) 100000000 (ReportedAfter place kind cycles)) old new → EndsCode code (Ran (outcome.Faulted place kind) cycles) old new
+reported code place kind cycles old new over = ends_code code (Faulted place kind) cycles old new over
 
 goes_on_over : (report : Report) (out left : List ℕ) → report ≡ More out left → IsOver report → ⊥
 goes_on_over report out left e over = let is = over.is in cc
@@ -97,8 +101,11 @@ runs_program program code success old new plain valid agrees ends = record {
   plain = plain;
   valid = valid;
   agrees = agrees;
+  finish = ends.finish;
+  cycles = ends.cycles;
+  is = ends.is;
   some = ends.some;
   few = ends.few;
-  runs = over_weaken (EndsAfter (code_meaning code) (finish_of success) (cycles_of success)) (EndsAlike program code success) old new ends.runs
-      (λ input left out is. record { code_ends = is; source_ends = (same_ends agrees input (finish_of success) out left).1 (cycles_of success, is.over) });
+  runs = over_weaken (EndsAfter (code_meaning code) ends.finish ends.cycles) (EndsAlike program code ends.finish ends.cycles) old new ends.runs
+      (λ input left out is. record { code_ends = is; source_ends = (same_ends agrees input ends.finish out left).1 (ends.cycles, is.over) });
 }

@@ -3,22 +3,21 @@ use Rattle.std.proofs.Common.{◌≡◌, ◌⊎◌, inl, inr, ℕ, ◌≤◌, Li
 use Rattle.std.specs.Prelude.{IsSomeAnd, IfSome, IsErrOf}
 use Rattle.std.specs.FinMap.{get}
 use Rattle.ib_base.specs.Cause.{Rose}
-use Rattle.ib_base.specs.World.{World, Disk}
-use Rattle.first_form.specs.declared.program.Program.{Program}
+use Rattle.ib_base.specs.World.{World}
 use Rattle.impactc_core.specs.declared.core_err.CoreErr.{CoreErr}
 use Rattle.impactc_core.specs.declared.core_err.CoreErr.TheVariants.{Usage as BadWords, Source, HostFault as Host, NoMemory as Memory, TooLarge as Large}
-use Rattle.impactc_core.specs.declared.core_err.Limit.{Limit}
-use Rattle.impactc_core.specs.declared.core_err.Limit.TheVariants.{Source as SourceBytes, Nesting}
 use Rattle.impactc_core.specs.declared.status.Status.{Status}
 use Rattle.impactc_core.specs.declared.status.Status.TheVariants.{Done, Usage, SourceRefused, ProfileRefused, CodeRefused, HostFault, NoMemory, TooLarge, ProgramFault, CyclesSpent}
 use Rattle.impactc_core.specs.declared.success.Success.{Success}
-use Rattle.impactc_core.specs.declared.success.Success.TheVariants.{Ended, Faulted}
 use Rattle.impactc_core.specs.declared.words.Command.{Command}
-use Rattle.impactc_core.specs.declared.words.Command.TheVariants.{Run}
-use Rattle.impactc_core.specs.Answers.{IsPlain, HasProgram, IsPast, AnswerOf, RunAnswer, MayChange, Works, IsAnswersNote, NoteOf, Answers, IsCaused, IsRunnable}
+use Rattle.impactc_core.specs.declared.words.Command.TheVariants.{Check, Interp, Run}
+use Rattle.impactc_core.specs.Answers.{IsPlain, AnswerOf, MayChange, Works, IsAnswersNote, NoteOf, Answers, IsCaused}
+use Rattle.impactc_core.specs.CheckAnswers.{CheckAnswer}
+use Rattle.impactc_core.specs.InterpAnswers.{InterpAnswer}
 use Rattle.impactc_core.specs.Notes.{refusal_note, status_of, note_of}
+use Rattle.impactc_core.specs.RunAnswers.{RunAnswer}
 use Rattle.impactc_core.specs.Work.{NoteFor, LeavesNote}
-use Rattle.impactc_core.proofs.Fronts.{no_fault, no_depth}
+use Rattle.impactc_core.proofs.Plain.{success_plain}
 
 module _ (answer : Status → World → World → List ℕ → Type 0) (may : World → World → Type 0) (old mid : World) (work : Result Success CoreErr) (works : Works answer may old mid (status_of work) (note_of work)) where
   of_work : (status : Status) (whole : List ℕ) → IsPlain (status_of work) → whole ≡ note_of work → IsAnswersNote answer old mid whole
@@ -29,8 +28,7 @@ module _ (answer : Status → World → World → List ℕ → Type 0) (may : Wo
       subst (λ (s : Status). answer s old mid whole) (sym same) (subst (answer (status_of work) old mid) (sym is) (works.answers (subst IsPlain same plain)))
 
   host_work : (r : Result Success CoreErr) → status_of r ≡ HostFault → note_of r ≡ refusal_note Host
-  host_work (Ok (Ended z cycles)) e = cc
-  host_work (Ok (Faulted place kind cycles)) e = cc
+  host_work (Ok success) e = absurd (subst IsPlain e (success_plain success))
   host_work (Err BadWords) e = cc
   host_work (Err (Source file place fault)) e = cc
   host_work (Err Host) e = refl
@@ -78,13 +76,25 @@ works_usage read old new none same =
 
 may_nothing : (read : Option Command) (old new : World) → new ≡ old → MayChange read old new
 may_nothing None old new same = same
+may_nothing (Some (Check file)) old new same = same
+may_nothing (Some (Interp file)) old new same = inl same
 may_nothing (Some (Run file)) old new same = inl same
 
 pub works_no_memory : (read : Option Command) (old new : World) → new ≡ old → Works (AnswerOf read) (MayChange read) old new (status_of (Err Memory)) (note_of (Err Memory))
 works_no_memory read old new same = record { may = may_nothing read old new same; answers = λ plain. absurd plain }
 
-pub works_read : (read : Option Command) (file : List ℕ) (old new : World) (status : Status) (note : List ℕ) → read ≡ Some (Run file) → Works (RunAnswer file) (MayChange (Some (Run file))) old new status note → Works (AnswerOf read) (MayChange read) old new status note
-works_read read file old new status note is works = subst (λ (r : Option Command). Works (AnswerOf r) (MayChange r) old new status note) (sym is) works
+module _ (read : Option Command) (file : List ℕ) (old new : World) (status : Status) (note : List ℕ) where
+  works_read : (command : Command) → read ≡ Some command → Works (AnswerOf (Some command)) (MayChange (Some command)) old new status note → Works (AnswerOf read) (MayChange read) old new status note
+  works_read command is works = subst (λ (r : Option Command). Works (AnswerOf r) (MayChange r) old new status note) (sym is) works
+
+  pub works_check : read ≡ Some (Check file) → Works (CheckAnswer file) (MayChange (Some (Check file))) old new status note → Works (AnswerOf read) (MayChange read) old new status note
+  works_check = works_read (Check file)
+
+  pub works_interp : read ≡ Some (Interp file) → Works (InterpAnswer file) (MayChange (Some (Interp file))) old new status note → Works (AnswerOf read) (MayChange read) old new status note
+  works_interp = works_read (Interp file)
+
+  pub works_run : read ≡ Some (Run file) → Works (RunAnswer file) (MayChange (Some (Run file))) old new status note → Works (AnswerOf read) (MayChange read) old new status note
+  works_run = works_read (Run file)
 
 -- ---- causes
 
@@ -103,8 +113,7 @@ module _ (status : Status) (before mid now : ℕ) (now_later : mid ≤ now) wher
   other work not_host le later e = rose_later before mid now le (later (e, not_host))
 
   by_work : (work : Result Success CoreErr) → before ≤ mid → (IsErrOf work Host → Rose before mid) → Later work → status ≡ HostFault → Rose before now
-  by_work (Ok (Ended z cycles)) le rose later e = other (Ok (Ended z cycles)) (λ h. cc) le later e
-  by_work (Ok (Faulted place kind cycles)) le rose later e = other (Ok (Faulted place kind cycles)) (λ h. cc) le later e
+  by_work (Ok success) le rose later e = other (Ok success) (λ h. subst IsPlain h (success_plain success)) le later e
   by_work (Err BadWords) le rose later e = other (Err BadWords) (λ h. cc) le later e
   by_work (Err (Source file place fault)) le rose later e = other (Err (Source file place fault)) (λ h. cc) le later e
   by_work (Err Host) le rose later e = rose_after before mid now (rose refl) now_later
@@ -114,39 +123,3 @@ module _ (status : Status) (before mid now : ℕ) (now_later : mid ≤ now) wher
 -- the host's fault in a work or its note rose the count
 pub host_caused : (work : Result Success CoreErr) (status : Status) (before mid now : ℕ) → IsCaused before mid (IsErrOf work Host) → IsCaused mid now ((status ≡ HostFault) × (status_of work ≡ HostFault → ⊥)) → status ≡ HostFault → Rose before now
 host_caused work status before mid now one two = by_work status before mid now two.later work one.later one.rose two.rose
-
--- ---- completeness
-
-some_same : (a b : List ℕ) → Some a ≡ Some b → a ≡ b
-some_same a b e = cc
-
-same_content : (disk : Option Disk) (file a b : List ℕ) → IsSomeAnd disk (λ d. get d.files file ≡ Some a) → IfSome disk (λ d. get d.files file ≡ Some b) → a ≡ b
-same_content None file a b h k = absurd h
-same_content (Some disk) file a b h k = some_same a b (sym h ∙ k)
-
--- what is runnable passes no limit
-not_past : (content : List ℕ) (program : Program) → length content ≤ 1048576 → HasProgram content program → (limit : Limit) → IsPast content limit → ⊥
-not_past content program fits has SourceBytes past = omega arith
-not_past content program fits has Nesting past = no_depth content program has past.1
-
-at_run : (file content : List ℕ) (program : Program) (old new : World) (status : Status) (rose : Type 0) → IsRunnable file old content program → Answers (RunAnswer file) (MayChange (Some (Run file))) old new status → (status ≡ HostFault → rose) → (status ≡ Done) ⊎ ((status ≡ ProgramFault) ⊎ ((status ≡ NoMemory) ⊎ rose))
-at_run file content program old new Done rose can answers fault = inl refl
-at_run file content program old new Usage rose can answers fault = absurd answers.says
-at_run file content program old new SourceRefused rose can answers fault =
-    let refused = answers.says in
-    let same : content ≡ refused.content = same_content old.disk file content refused.content can.there refused.source.there in
-    absurd (no_fault refused.content program (subst (λ (bytes : List ℕ). HasProgram bytes program) same can.form) refused.place refused.reason refused.has_fault)
-at_run file content program old new ProfileRefused rose can answers fault = absurd answers.says
-at_run file content program old new CodeRefused rose can answers fault = absurd answers.says
-at_run file content program old new HostFault rose can answers fault = inr (inr (inr (fault refl)))
-at_run file content program old new NoMemory rose can answers fault = inr (inr (inl refl))
-at_run file content program old new TooLarge rose can answers fault =
-    let large = answers.says in
-    let same : content ≡ large.content = same_content old.disk file content large.content can.there large.there in
-    absurd (not_past content program can.fits can.form large.limit (subst (λ (bytes : List ℕ). IsPast bytes large.limit) (sym same) large.past))
-at_run file content program old new ProgramFault rose can answers fault = inr (inl refl)
-at_run file content program old new CyclesSpent rose can answers fault = absurd answers.says
-
-pub completes : (read : Option Command) (file content : List ℕ) (program : Program) (old new : World) (status : Status) (rose : Type 0) → read ≡ Some (Run file) → IsRunnable file old content program → Answers (AnswerOf read) (MayChange read) old new status → (status ≡ HostFault → rose) → (status ≡ Done) ⊎ ((status ≡ ProgramFault) ⊎ ((status ≡ NoMemory) ⊎ rose))
-completes read file content program old new status rose is can answers fault =
-    at_run file content program old new status rose can (subst (λ (r : Option Command). Answers (AnswerOf r) (MayChange r) old new status) is answers) fault

@@ -1,6 +1,10 @@
 pub mod Answers
+pub mod CheckAnswers
+pub mod InterpAnswers
 pub mod Notes
+pub mod RunAnswers
 pub mod Runs
+pub mod Sources
 pub mod Status
 pub mod Words
 pub mod Work

@@ -1,7 +1,8 @@
 -- What the parts of a command's work come to.
-use Rattle.std.specs.Prelude.{◌≡◌, ◌≤◌, ◌<◌, ◌⊎◌, ⊤, ℕ, List, length, slice_get, Result}
-use Rattle.ib_meaning.specs.Agreement.{Agrees}
+use Rattle.std.specs.Prelude.{◌≡◌, ◌≤◌, ◌<◌, ◌⊎◌, ⊤, ℕ, List, length, slice_get, Result, if◌then◌else◌, ◌==◌}
+use Rattle.ib_meaning.specs.Agreement.{Agrees, Finish}
 use Rattle.ib_base.specs.World.{World, HasFile, Begins, noted}
+use Rattle.ib_base.specs.declared.outcome.Outcome.{Outcome}
 use Rattle.ib_run.specs.OverHost.{OverHost}
 use Rattle.machine_desc.specs.Machine.{four_units}
 use Rattle.wide_core.specs.declared.code.RawCode.{RawCode}
@@ -10,22 +11,35 @@ use Rattle.wide_sim.specs.Simulation.{EndsAfter}
 use Rattle.first_form.specs.declared.program.Program.{Program}
 use Rattle.first_form.specs.Meaning.{source_meaning}
 use Rattle.first_code.specs.Plain.{IsPlain as IsPlainCode}
-use Rattle.impactc_core.specs.declared.core_err.CoreErr.{CoreErr}
-use Rattle.impactc_core.specs.declared.core_err.CoreErr.TheVariants.{Source, HostFault as Host, NoMemory as Memory, TooLarge as Large}
-use Rattle.impactc_core.specs.declared.core_err.Limit.TheVariants.{Source as SourceBytes, Nesting}
-use Rattle.impactc_core.specs.declared.core_err.SourceFault.TheVariants.{Lexical, Syntax}
 use Rattle.c_ast.specs.declared.token.Token.{Token}
 use Rattle.c_ast.specs.declared.fault.LexFault.TheVariants as lex_fault
 use Rattle.c_lex.specs.declared.error.LexErr.{LexErr}
 use Rattle.c_lex.specs.declared.error.LexErr.TheVariants.{BadByte, OpenComment, BadLiteral, NoMemory as OutOfMemory}
 use Rattle.c_parse.specs.declared.parser.ParseErr.{ParseErr}
 use Rattle.c_parse.specs.declared.parser.ParseErr.TheVariants.{TooDeep, Syntax as WrongAt, NoMemory as NoRoom}
+use Rattle.c_typed.specs.Program.{Program as Typed}
+use Rattle.c_operators.specs.declared.rule.Rule.{Rule}
+use Rattle.c_operators.specs.declared.rule.Rule.TheVariants as rule
+use Rattle.c_program.specs.declared.error.CheckErr.{CheckErr}
+use Rattle.c_program.specs.declared.error.CheckErr.TheVariants.{Rule as Broken, Globals as LargeGlobals, Frame as LargeFrame, NoMemory as NoSpace}
+use Rattle.c_interp.specs.Running.{MeansSo}
+use Rattle.impactc_core.specs.declared.core_err.CoreErr.{CoreErr}
+use Rattle.impactc_core.specs.declared.core_err.CoreErr.TheVariants.{Source, HostFault as Host, NoMemory as Memory, TooLarge as Large}
+use Rattle.impactc_core.specs.declared.core_err.Limit.TheVariants.{Source as SourceBytes, Nesting, Globals, Frame}
+use Rattle.impactc_core.specs.declared.core_err.SourceFault.TheVariants.{Lexical, Syntax, Typing, NotInThisVersion}
+use Rattle.impactc_core.specs.declared.front.SourceErr.{SourceErr}
+use Rattle.impactc_core.specs.declared.front.SourceErr.TheVariants.{Fault, TooLarge as PastLimit, NoMemory as NoMemoryLeft}
 use Rattle.impactc_core.specs.declared.status.Status.{Status}
 use Rattle.impactc_core.specs.declared.status.Status.TheVariants.{HostFault, NoMemory}
 use Rattle.impactc_core.specs.declared.success.Success.{Success}
-use Rattle.impactc_core.specs.Answers.{IsPlain, NestsTooDeep, HasProgram, HasFault, place_of}
+use Rattle.impactc_core.specs.declared.success.Success.TheVariants.{Checked, Interpreted, Ran}
+use Rattle.impactc_core.specs.Answers.{IsPlain}
 use Rattle.impactc_core.specs.Notes.{refusal_note, status_of, note_of}
-use Rattle.impactc_core.specs.Runs.{BeginsOutput, EndsAlike, code_meaning, finish_of, cycles_of}
+use Rattle.impactc_core.specs.RunAnswers.{HasFirstForm, HasOtherForm}
+use Rattle.impactc_core.specs.Runs.{BeginsOutput, EndsAlike, code_meaning, outcome_of}
+use Rattle.impactc_core.specs.Sources.{HasProgram, HasFault, IsPast, place_of}
+
+-- ---- the source
 
 -- the file's content passes the limit
 pub record IsLarge (file : List ℕ) (w : World) : Type 0 where
@@ -40,17 +54,108 @@ IsReadErr file w Host = ⊤
 IsReadErr file w Memory = ⊤
 IsReadErr file w refusal = ⊥
 
+-- the lexer's refusal
+abbrev pub lexical_refusal : LexErr → SourceErr
+lexical_refusal (BadByte place) = Fault place (Lexical lex_fault.BadByte)
+lexical_refusal (OpenComment place) = Fault place (Lexical lex_fault.OpenComment)
+lexical_refusal (BadLiteral place) = Fault place (Lexical lex_fault.BadLiteral)
+lexical_refusal OutOfMemory = NoMemoryLeft
+
+-- the parser's refusal of these tokens
+abbrev pub phrase_refusal : (content : List ℕ) → List Token → ParseErr → SourceErr
+phrase_refusal content tokens (TooDeep place) = PastLimit Nesting
+phrase_refusal content tokens (WrongAt before) = Fault (place_of content (slice_get tokens before)) Syntax
+phrase_refusal content tokens NoRoom = NoMemoryLeft
+
+-- the rule with this number
+abbrev pub rule_of : ℕ → Rule
+rule_of number =
+    if number == 1 then rule.UnknownName else
+    (if number == 2 then rule.Redeclared else
+    (if number == 3 then rule.NoMain else
+    (if number == 4 then rule.WrongSignature else
+    (if number == 5 then rule.BadType else
+    (if number == 6 then rule.NotAPlace else
+    (if number == 7 then rule.NotACondition else
+    (if number == 8 then rule.WrongOperands else
+    (if number == 9 then rule.NotAssignable else
+    (if number == 10 then rule.NotAFunction else
+    (if number == 11 then rule.ArgumentCount else
+    (if number == 12 then rule.OutsideALoop else
+    (if number == 13 then rule.ReturnValue else
+    rule.WrongInitialiser))))))))))))
+
+-- the refusal of a tree
+abbrev pub typing_refusal : CheckErr → SourceErr
+typing_refusal (Broken number place) = Fault place (Typing (rule_of number))
+typing_refusal (LargeGlobals bytes) = PastLimit Globals
+typing_refusal (LargeFrame bytes) = PastLimit Frame
+typing_refusal NoSpace = NoMemoryLeft
+
+-- why a source has no program
+abbrev pub Refuses : List ℕ → SourceErr → Type 0
+Refuses content (Fault place fault) = HasFault content place fault
+Refuses content (PastLimit limit) = IsPast content limit
+Refuses content NoMemoryLeft = ⊤
+
+-- the same of a source that is compiled: it has another form, or no program
+pub record IsOutside (content : List ℕ) (error : SourceErr) : Type 0 where
+  pub other : HasOtherForm content
+  pub says : error ≡ Fault (record { line = 1; col = 1 }) NotInThisVersion
+
+abbrev pub RefusesToRun : List ℕ → SourceErr → Type 0
+RefusesToRun content error = Refuses content error ⊎ IsOutside content error
+
+-- the refusal of the file that has the source
+abbrev pub of_file : List ℕ → SourceErr → CoreErr
+of_file file (Fault place fault) = Source file place fault
+of_file file (PastLimit limit) = Large limit
+of_file file NoMemoryLeft = Memory
+
+-- the file's refusal for such a reason
+pub record RefusesFile (file : List ℕ) (reason : SourceErr → Type 0) (refusal : CoreErr) : Type 0 where
+  pub error : SourceErr
+  pub is : refusal ≡ of_file file error
+  pub why : reason error
+
 -- a run breaks off by the host's failure or for want of memory alone
 abbrev pub IsBreak : CoreErr → Type 0
 IsBreak Host = ⊤
 IsBreak Memory = ⊤
 IsBreak refusal = ⊥
 
+-- ---- `check`
+
+-- a source was judged, and has a program
+pub record ChecksSource (content : List ℕ) (success : Success) : Type 0 where
+  pub program : Typed
+  pub typed : HasProgram content program
+  pub is : success ≡ Checked
+
+-- ---- `interp`
+
+-- a program was interpreted
+pub record Interprets (program : Typed) (success : Success) (old new : World) : Type 0 where
+  pub outcome : Outcome
+  pub is : success ≡ Interpreted outcome
+  pub means : OverHost (MeansSo program 10000000 outcome) old new
+
+-- a source's program was interpreted
+pub record InterpretsSource (content : List ℕ) (success : Success) (old new : World) : Type 0 where
+  pub program : Typed
+  pub typed : HasProgram content program
+  pub interprets : Interprets program success old new
+
+-- ---- `run`
+
 -- the code was run to its end
 pub record EndsCode (code : RawCode) (success : Success) (old new : World) : Type 0 where
-  pub some : 1 ≤ cycles_of success
-  pub few : cycles_of success ≤ 100000000
-  pub runs : OverHost (EndsAfter (code_meaning code) (finish_of success) (cycles_of success)) old new
+  pub finish : Finish
+  pub cycles : ℕ
+  pub is : success ≡ Ran (outcome_of finish) cycles
+  pub some : 1 ≤ cycles
+  pub few : cycles ≤ 100000000
+  pub runs : OverHost (EndsAfter (code_meaning code) finish cycles) old new
 
 -- a code of the program was run to its end
 pub record RunsProgram (program : Program) (success : Success) (old new : World) : Type 0 where
@@ -58,9 +163,32 @@ pub record RunsProgram (program : Program) (success : Success) (old new : World)
   pub plain : IsPlainCode code
   pub valid : IsValid (limits 4 32 four_units) code
   pub agrees : Agrees (source_meaning program) (code_meaning code)
-  pub some : 1 ≤ cycles_of success
-  pub few : cycles_of success ≤ 100000000
-  pub runs : OverHost (EndsAlike program code success) old new
+  pub finish : Finish
+  pub cycles : ℕ
+  pub is : success ≡ Ran (outcome_of finish) cycles
+  pub some : 1 ≤ cycles
+  pub few : cycles ≤ 100000000
+  pub runs : OverHost (EndsAlike program code finish cycles) old new
+
+-- a source's program was run to its end
+pub record RunsSource (content : List ℕ) (success : Success) (old new : World) : Type 0 where
+  pub program : Program
+  pub form : HasFirstForm content program
+  pub runs : RunsProgram program success old new
+
+-- ---- work that is not done
+
+-- the work on a source broke off, with this printed
+pub record BreaksOff (printed : World → World → Type 0) (refusal : CoreErr) (old new : World) : Type 0 where
+  pub is_break : IsBreak refusal
+  pub part : printed old new
+
+-- why the program of a source within the limit was not run to its end: the source was refused, and then nothing changed; or
+-- the run broke off
+abbrev pub RefusesSource : (file : List ℕ) → (reason : SourceErr → Type 0) → (printed : World → World → Type 0) → CoreErr → (old new : World) → Type 0
+RefusesSource file reason printed refusal old new = (RefusesFile file reason refusal × (new ≡ old)) ⊎ BreaksOff printed refusal old new
+
+-- ---- notes
 
 -- the text that a status goes with, behind this work
 abbrev pub NoteFor : Result Success CoreErr → Status → List ℕ → Type 0
@@ -89,40 +217,3 @@ pub record Leaves (whole : List ℕ) (status : Status) (old new : World) (result
   pub begins : Begins note whole
   pub world : new ≡ noted old note
   pub comes : ((result ≡ status) × (note ≡ whole)) ⊎ ((result ≡ status_behind status HostFault) ⊎ (result ≡ status_behind status NoMemory))
-
--- a source's program was run to its end
-pub record RunsSource (bytes : List ℕ) (success : Success) (old new : World) : Type 0 where
-  pub program : Program
-  pub form : HasProgram bytes program
-  pub runs : RunsProgram program success old new
-
--- why a source within the limit gives no program
-abbrev pub IsSourceErr : (file bytes : List ℕ) → CoreErr → Type 0
-IsSourceErr file bytes (Source name place reason) = (name ≡ file) × HasFault bytes place reason
-IsSourceErr file bytes (Large limit) = (limit ≡ Nesting) × NestsTooDeep bytes
-IsSourceErr file bytes Memory = ⊤
-IsSourceErr file bytes refusal = ⊥
-
--- the run of a source's program broke off
-pub record BreaksOff (bytes : List ℕ) (refusal : CoreErr) (old new : World) : Type 0 where
-  pub program : Program
-  pub form : HasProgram bytes program
-  pub is_break : IsBreak refusal
-  pub prints : OverHost (BeginsOutput (source_meaning program)) old new
-
--- why a source within the limit was not run to its end: it gives no program, and then nothing changed; or its run broke off
-abbrev pub RefusesSource : (file bytes : List ℕ) → CoreErr → (old new : World) → Type 0
-RefusesSource file bytes refusal old new = (IsSourceErr file bytes refusal × (new ≡ old)) ⊎ BreaksOff bytes refusal old new
-
--- the lexer's refusal of a file
-abbrev pub lexical_refusal : List ℕ → LexErr → CoreErr
-lexical_refusal file (BadByte place) = Source file place (Lexical lex_fault.BadByte)
-lexical_refusal file (OpenComment place) = Source file place (Lexical lex_fault.OpenComment)
-lexical_refusal file (BadLiteral place) = Source file place (Lexical lex_fault.BadLiteral)
-lexical_refusal file OutOfMemory = Memory
-
--- the parser's refusal of a file with these tokens
-abbrev pub phrase_refusal : (file bytes : List ℕ) → List Token → ParseErr → CoreErr
-phrase_refusal file bytes tokens (TooDeep place) = Large Nesting
-phrase_refusal file bytes tokens (WrongAt before) = Source file (place_of bytes (slice_get tokens before)) Syntax
-phrase_refusal file bytes tokens NoRoom = Memory

@@ -1,15 +1,21 @@
+ghost use Rattle.std.specs.Prelude.{◌≡◌};
+ghost use Rattle.impactc_core.specs.Notes.{rule_text};
+
 use crate::FileName;
 use c_ast::LexFault;
+use c_operators::rule::Rule;
 use ib_base::Place;
 use std::fmt;
 
 /// Why a source is refused.
-#[derive(Clone, Copy, Debug)]
+#[derive(Clone, Copy)]
 pub enum SourceFault {
     /// At the place no part of a source stands.
     Lexical(LexFault),
     /// What stands before the place begins a unit of the grammar, and with the token there, or with the end, there is none.
     Syntax,
+    /// The place is the first at which rules of typing are broken, and this is the least of them.
+    Typing(Rule),
     /// The source has a form that this version does not compile.
     NotInThisVersion,
 }
@@ -21,6 +27,10 @@ pub enum Limit {
     Source,
     /// How deep a source's tokens nest.
     Nesting,
+    /// The bytes of a program's globals and string literals.
+    Globals,
+    /// The bytes of a function's frame.
+    Frame,
 }
 
 /// Why a command is refused, with what the note shows.
@@ -39,6 +49,28 @@ pub enum CoreErr {
     },
 }
 
+/// The text of a rule of typing.
+fn rule_text(rule: Rule) -> &'static str
+    ensures { result.now ≡ rule_text rule }
+{
+    match rule {
+        Rule::UnknownName => "unknown name",
+        Rule::Redeclared => "redeclared",
+        Rule::NoMain => "no main",
+        Rule::WrongSignature => "signature",
+        Rule::BadType => "bad type",
+        Rule::NotAPlace => "not a place",
+        Rule::NotACondition => "not a condition",
+        Rule::WrongOperands => "operands",
+        Rule::NotAssignable => "not assignable",
+        Rule::NotAFunction => "not a function",
+        Rule::ArgumentCount => "argument count",
+        Rule::OutsideALoop => "outside a loop",
+        Rule::ReturnValue => "return value",
+        Rule::WrongInitialiser => "initialiser",
+    }
+}
+
 impl fmt::Display for SourceFault {
     ghost use Rattle.std.specs.Prelude.{Some};
     ghost use Rattle.impactc_core.specs.Notes.{source_text};
@@ -51,8 +83,15 @@ impl fmt::Display for SourceFault {
             SourceFault::Lexical(LexFault::OpenComment) => f.write_str("open comment"),
             SourceFault::Lexical(LexFault::BadLiteral) => f.write_str("bad literal"),
             SourceFault::Syntax => f.write_str("syntax"),
+            SourceFault::Typing(rule) => f.write_str(rule_text(*rule)),
             SourceFault::NotInThisVersion => f.write_str("not in this version"),
         }
+    }
+}
+
+impl fmt::Debug for SourceFault {
+    fn fmt<W: fmt::Write>(&self, f: &mut fmt::Formatter<W>) -> fmt::Result {
+        write!(f, "{self}")
     }
 }
 
@@ -66,6 +105,8 @@ impl fmt::Display for Limit {
         match self {
             Limit::Source => f.write_str("source 1048576"),
             Limit::Nesting => f.write_str("nesting 200"),
+            Limit::Globals => f.write_str("globals 524288"),
+            Limit::Frame => f.write_str("frame 262144"),
         }
     }
 }

@@ -1,33 +1,56 @@
-//! From a source's bytes to the program that it is.
+//! From a source's bytes to its tokens, its unit and its program.
 
 ghost use Rattle.std.specs.Prelude.{◌≡◌, ◌≤◌, length, slice_get, List, IfOk, IfErr};
 ghost use Rattle.c_ast.specs.Cut.{AreTokens};
-ghost use Rattle.c_ast.specs.Trees.{Top};
-ghost use Rattle.first_code.specs.Made.{IsShort};
-ghost use Rattle.impactc_core.specs.Answers.{HasUnit, HasProgram, place_of};
-ghost use Rattle.impactc_core.specs.Work.{IsSourceErr, lexical_refusal, phrase_refusal};
+ghost use Rattle.c_ast.specs.TreeViews.{unit_of};
+ghost use Rattle.c_ast.specs.declared.token.Token.{Token};
+ghost use Rattle.c_program.specs.Checked.{program};
+ghost use Rattle.impactc_core.specs.Sources.{HasUnit, HasProgram, place_of};
+ghost use Rattle.impactc_core.specs.Work.{Refuses, lexical_refusal, phrase_refusal, typing_refusal, rule_of, of_file};
 
 use crate::{CoreErr, FileName, Limit, SourceFault};
-use c_ast::{LexFault, Token};
+use c_ast::{LexFault, Token, Unit};
 use c_lex::{LexErr, end_place, lex};
+use c_operators::rule::Rule;
 use c_parse::{ParseErr, parse};
-use first_form::{Program, ReadErr, read};
+use c_program::{CheckErr, Program};
+use c_types::check;
 use ib_base::Place;
-use sqlite_items::at;
+use sqlite_items::{Items, at};
 use std::alloc::Global;
 
-/// The refusal of a file that has no tokens.
-fn lexical_refusal(file: FileName, refusal: LexErr) -> CoreErr
-    ensures { result ≡ lexical_refusal file refusal }
+/// Why a source is refused, whatever its file's name is.
+#[derive(Clone, Copy)]
+pub enum SourceErr {
+    Fault { place: Place, fault: SourceFault },
+    TooLarge(Limit),
+    NoMemory,
+}
+
+impl SourceErr {
+    /// The refusal of the file that has the source.
+    pub fn of_file(self, file: FileName) -> CoreErr
+        ensures { result ≡ of_file file self }
+    {
+        match self {
+            SourceErr::Fault { place, fault } => CoreErr::Source { file, place, fault },
+            SourceErr::TooLarge(limit) => CoreErr::TooLarge { limit },
+            SourceErr::NoMemory => CoreErr::NoMemory,
+        }
+    }
+}
+
+/// The refusal of a source that has no tokens.
+fn lexical_refusal(refusal: LexErr) -> SourceErr
+    ensures { result ≡ lexical_refusal refusal }
 {
     let (place, fault) = match refusal {
         LexErr::BadByte(place) => (place, LexFault::BadByte),
         LexErr::OpenComment(place) => (place, LexFault::OpenComment),
         LexErr::BadLiteral(place) => (place, LexFault::BadLiteral),
-        LexErr::NoMemory => return CoreErr::NoMemory,
+        LexErr::NoMemory => return SourceErr::NoMemory,
     };
-    CoreErr::Source {
-        file,
+    SourceErr::Fault {
         place,
         fault: SourceFault::Lexical(fault),
     }
@@ -44,79 +67,129 @@ fn place_behind(bytes: &[u8], tokens: &[Token], count: usize) -> Place
     }
 }
 
-/// The refusal of a file whose tokens are no unit, or nest too deep.
-fn phrase_refusal(file: FileName, bytes: &[u8], tokens: &[Token], refusal: ParseErr) -> CoreErr
+/// The refusal of a source whose tokens are no unit, or nest too deep.
+fn phrase_refusal(bytes: &[u8], tokens: &[Token], refusal: ParseErr) -> SourceErr
     requires { length bytes.now ≤ 1048576 }
-    ensures { result ≡ phrase_refusal file bytes.now tokens.now refusal }
+    ensures { result ≡ phrase_refusal bytes.now tokens.now refusal }
 {
     match refusal {
-        ParseErr::TooDeep(_) => CoreErr::TooLarge {
-            limit: Limit::Nesting,
-        },
-        ParseErr::Syntax(count) => CoreErr::Source {
-            file,
+        ParseErr::TooDeep(_) => SourceErr::TooLarge(Limit::Nesting),
+        ParseErr::Syntax(count) => SourceErr::Fault {
             place: place_behind(bytes, tokens, count),
             fault: SourceFault::Syntax,
         },
-        ParseErr::NoMemory => CoreErr::NoMemory,
+        ParseErr::NoMemory => SourceErr::NoMemory,
     }
 }
 
-/// The program of a source that has a unit: it is asked of the tokens still, not of the tree.
-#[tactic(auto, using(crate::proofs::Fronts::has_program, crate::proofs::Fronts::short_program))]
-fn program_of_unit(
-    alloc: Global,
-    file: FileName,
-    bytes: &[u8],
-    tokens: &[Token],
-) -> Result<Program, CoreErr>
-    requires { (unit : List Top) × HasUnit bytes.now tokens.now unit }
-    ensures program { IfOk result (HasProgram bytes.now) }
-    ensures short { IfOk result IsShort }
-    ensures refused { IfErr result (IsSourceErr file bytes.now) }
+/// The rule of typing with this number. There are no others.
+fn rule_of(number: u8) -> Rule
+    ensures { result ≡ rule_of number }
 {
-    match read(alloc, bytes, tokens) {
-        Ok(program) => Ok(program),
-        Err(ReadErr::NotFirstForm) => Err(CoreErr::Source {
-            file,
-            place: Place { line: 1, col: 1 },
-            fault: SourceFault::NotInThisVersion,
-        }),
-        Err(ReadErr::NoMemory) => Err(CoreErr::NoMemory),
+    match number {
+        1 => Rule::UnknownName,
+        2 => Rule::Redeclared,
+        3 => Rule::NoMain,
+        4 => Rule::WrongSignature,
+        5 => Rule::BadType,
+        6 => Rule::NotAPlace,
+        7 => Rule::NotACondition,
+        8 => Rule::WrongOperands,
+        9 => Rule::NotAssignable,
+        10 => Rule::NotAFunction,
+        11 => Rule::ArgumentCount,
+        12 => Rule::OutsideALoop,
+        13 => Rule::ReturnValue,
+        _ => Rule::WrongInitialiser,
     }
 }
 
+/// The refusal of a source whose unit breaks a rule of typing, or is too large.
+fn typing_refusal(refusal: CheckErr) -> SourceErr
+    ensures { result ≡ typing_refusal refusal }
+{
+    match refusal {
+        CheckErr::Rule { rule, place } => SourceErr::Fault {
+            place,
+            fault: SourceFault::Typing(rule_of(rule)),
+        },
+        CheckErr::Globals(_) => SourceErr::TooLarge(Limit::Globals),
+        CheckErr::Frame(_) => SourceErr::TooLarge(Limit::Frame),
+        CheckErr::NoMemory => SourceErr::NoMemory,
+    }
+}
+
+/// The tokens of a source.
+#[tactic(auto, using(crate::proofs::Fronts::refuses_bytes))]
+pub fn tokens_of(alloc: Global, bytes: &[u8]) -> Result<Items<Token>, SourceErr>
+    requires { length bytes.now ≤ 1048576 }
+    ensures cut { IfOk result (AreTokens bytes.now) }
+    ensures refused { IfErr result (Refuses bytes.now) }
+{
+    match lex(alloc, bytes) {
+        Ok(tokens) => Ok(tokens),
+        Err(refusal) => Err(lexical_refusal(refusal)),
+    }
+}
+
+/// The unit of a source's tokens.
 #[tactic(auto, using(crate::proofs::Fronts::has_unit, crate::proofs::Fronts::refuses_phrases))]
-fn program_of_tokens(
-    alloc: Global,
-    file: FileName,
-    bytes: &[u8],
-    tokens: &[Token],
-) -> Result<Program, CoreErr>
+fn unit_of(alloc: Global, bytes: &[u8], tokens: &[Token]) -> Result<Unit, SourceErr>
     requires limit { length bytes.now ≤ 1048576 }
     requires cut { AreTokens bytes.now tokens.now }
-    ensures program { IfOk result (HasProgram bytes.now) }
-    ensures short { IfOk result IsShort }
-    ensures refused { IfErr result (IsSourceErr file bytes.now) }
+    ensures unit { IfOk result (λ unit. HasUnit bytes.now tokens.now (unit_of unit)) }
+    ensures refused { IfErr result (Refuses bytes.now) }
 {
     match parse(alloc, tokens) {
+        Ok(unit) => Ok(unit),
+        Err(refusal) => Err(phrase_refusal(bytes, tokens, refusal)),
+    }
+}
+
+/// The program of a source's unit.
+#[tactic(auto, using(crate::proofs::Fronts::has_program, crate::proofs::Fronts::refuses_unit))]
+fn program_of_unit(alloc: Global, bytes: &[u8], unit: &Unit) -> Result<Program, SourceErr>
+    requires limit { length bytes.now ≤ 1048576 }
+    requires unit { (tokens : List Token) × HasUnit bytes.now tokens (unit_of unit.now) }
+    ensures program { IfOk result (λ checked. HasProgram bytes.now (program checked)) }
+    ensures refused { IfErr result (Refuses bytes.now) }
+{
+    match check(alloc, unit) {
+        Ok(checked) => Ok(checked),
+        Err(refusal) => Err(typing_refusal(refusal)),
+    }
+}
+
+/// The program of a source's tokens.
+#[tactic(auto, using(crate::proofs::Fronts::some_tokens))]
+pub fn program_of_tokens(
+    alloc: Global,
+    bytes: &[u8],
+    tokens: &[Token],
+) -> Result<Program, SourceErr>
+    requires limit { length bytes.now ≤ 1048576 }
+    requires cut { AreTokens bytes.now tokens.now }
+    ensures program { IfOk result (λ checked. HasProgram bytes.now (program checked)) }
+    ensures refused { IfErr result (Refuses bytes.now) }
+{
+    match unit_of(alloc, bytes, tokens) {
         Ok(unit) => {
+            let program = program_of_unit(alloc, bytes, &unit);
             drop(unit);
-            program_of_unit(alloc, file, bytes, tokens)
+            program
         }
-        Err(refusal) => Err(phrase_refusal(file, bytes, tokens, refusal)),
+        Err(refusal) => Err(refusal),
     }
 }
 
 /// The program of a source.
-pub fn program_of(alloc: Global, file: FileName, bytes: &[u8]) -> Result<Program, CoreErr>
+pub fn program_of(alloc: Global, bytes: &[u8]) -> Result<Program, SourceErr>
     requires { length bytes.now ≤ 1048576 }
-    ensures program { IfOk result (HasProgram bytes.now) }
-    ensures short { IfOk result IsShort }
-    ensures refused { IfErr result (IsSourceErr file bytes.now) }
+    ensures program { IfOk result (λ checked. HasProgram bytes.now (program checked)) }
+    ensures refused { IfErr result (Refuses bytes.now) }
 {
-    match lex(alloc, bytes) {
-        Ok(tokens) => program_of_tokens(alloc, file, bytes, tokens.as_slice()),
-        Err(refusal) => Err(lexical_refusal(file, refusal)),
+    match tokens_of(alloc, bytes) {
+        Ok(tokens) => program_of_tokens(alloc, bytes, tokens.as_slice()),
+        Err(refusal) => Err(refusal),
     }
 }

@@ -1,11 +1,14 @@
 //! The top call: words and a host in, a status out.
 #![tactic(auto)]
 
+mod check;
 mod core_err;
 mod file_name;
 mod front;
+mod interp;
 mod notes;
 mod run;
+mod source;
 mod status;
 mod success;
 mod top;

@@ -2,11 +2,11 @@ ghost use Rattle.std.specs.Prelude.{◌≡◌, ◌⊎◌, ◌++◌, [], ◌∷�
 ghost use Rattle.ib_base.specs.Cause.{Rose};
 ghost use Rattle.ib_base.specs.World.{noted};
 ghost use Rattle.impactc_core.specs.Answers.{IsPlain, IsCaused};
-ghost use Rattle.impactc_core.specs.Notes.{note_of, status_of, success_status, refusal_status, success_note, refusal_note};
+ghost use Rattle.impactc_core.specs.Notes.{note_of, status_of, outcome_status, success_status, refusal_status, success_note, refusal_note};
 ghost use Rattle.impactc_core.specs.Work.{NoteFor, LeavesNote, Leaves, status_behind};
 
 use crate::{CoreErr, Status, Success};
-use ib_base::{Host, HostErr};
+use ib_base::{Host, HostErr, Outcome};
 use std::alloc::{AllocError, Global};
 
 /// Leaves the note of a command's work, and answers the status.
@@ -54,13 +54,25 @@ fn status_of(work: &Result<Success, CoreErr>) -> Status
     ensures { result ≡ status_of work.now }
 {
     match work {
-        Ok(Success::Ended { .. }) => Status::Done,
-        Ok(Success::Faulted { .. }) => Status::ProgramFault,
+        Ok(Success::Checked) => Status::Done,
+        Ok(Success::Interpreted(outcome)) => outcome_status(*outcome),
+        Ok(Success::Ran { outcome, .. }) => outcome_status(*outcome),
         Err(CoreErr::Usage) => Status::Usage,
         Err(CoreErr::Source { .. }) => Status::SourceRefused,
         Err(CoreErr::HostFault) => Status::HostFault,
         Err(CoreErr::NoMemory) => Status::NoMemory,
         Err(CoreErr::TooLarge { .. }) => Status::TooLarge,
+    }
+}
+
+/// The status of a program's run that came out so.
+fn outcome_status(outcome: Outcome) -> Status
+    ensures { result ≡ outcome_status outcome }
+{
+    match outcome {
+        Outcome::Ended(_) => Status::Done,
+        Outcome::Faulted { .. } => Status::ProgramFault,
+        Outcome::Spent => Status::CyclesSpent,
     }
 }
 

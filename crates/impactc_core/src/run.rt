@@ -1,59 +1,32 @@
-ghost use Rattle.std.specs.Prelude.{◌≡◌, true, ℕ, ◌≤◌, List, length, IfOk, IfErr, OnErr, IsErrOf};
+ghost use Rattle.std.specs.Prelude.{◌≡◌, ℕ, ◌≤◌, List, length, IfOk, IfErr, OnErr, IsErrOf, Some};
 ghost use Rattle.ib_meaning.specs.Agreement.{IsOver};
 ghost use Rattle.ib_base.specs.World.{LacksFile};
+ghost use Rattle.ib_run.specs.OverHost.{OverHost};
+ghost use Rattle.c_ast.specs.Cut.{AreTokens};
+ghost use Rattle.c_typed.specs.Program.{Program as Typed};
 ghost use Rattle.first_code.specs.Made.{IsShort};
 ghost use Rattle.first_form.specs.Meaning.{source_meaning};
-ghost use Rattle.ib_run.specs.OverHost.{OverHost};
-ghost use Rattle.impactc_core.specs.Answers.{IsSource, IsCaused, Works, RunAnswer, MayChange};
+ghost use Rattle.impactc_core.specs.Answers.{IsCaused, MayChange, Works};
 ghost use Rattle.impactc_core.specs.Notes.{status_of, note_of};
+ghost use Rattle.impactc_core.specs.RunAnswers.{BeginsRun, HasFirstForm, RunAnswer};
 ghost use Rattle.impactc_core.specs.Runs.{BeginsOutput, code_meaning};
-ghost use Rattle.impactc_core.specs.Work.{EndsCode, IsReadErr, IsBreak, RunsProgram, RunsSource, RefusesSource};
+ghost use Rattle.impactc_core.specs.Sources.{HasProgram};
+ghost use Rattle.impactc_core.specs.Work.{EndsCode, IsBreak, RefusesSource, RefusesToRun, RunsProgram, RunsSource};
 
-use crate::front::program_of;
-use crate::{Command, CoreErr, FileName, Limit, Success};
+use crate::front::{SourceErr, program_of_tokens, tokens_of};
+use crate::source::read_source;
+use crate::{Command, CoreErr, FileName, SourceFault, Success};
+use c_ast::Token;
 use first_code::make;
-use first_form::Program;
-use ib_base::{Host, HostErr};
+use first_form::{Program, ReadErr, read};
+use ib_base::{Host, Outcome, Place};
 use machine_desc::Four;
 use std::alloc::Global;
 use wide_core::WideCode;
 use wide_sim::{SimErr, SimOutcome, simulate};
 
-/// The greatest size of a source, in bytes.
-const SOURCE_LIMIT: usize = 1_048_576;
-
 /// How many cycles a program may run.
 const CYCLES: u64 = 100_000_000;
-
-/// The bytes of a source within the limit.
-pub fn read_source<H: Host>(
-    alloc: Global,
-    file: &FileName,
-    host: &mut H,
-) -> Result<Vec<u8>, CoreErr>
-    ensures source { IfOk result (λ bytes. IsSource file.now (H.world host.old) bytes.items) }
-    ensures refused { IfErr result (IsReadErr file.now (H.world host.old)) }
-    ensures same_world { H.world host.new ≡ H.world host.old }
-    ensures cause { IsCaused (H.faults host.old) (H.faults host.new)
-        (IsErrOf result CoreErr.HostFault) }
-    ensures still_sure { H.sure host.old → H.sure host.new }
-    ensures missing { H.sure host.old → IsErrOf result CoreErr.HostFault → LacksFile
-        (H.world host.old) file.now }
-{
-    match host.read_file(alloc, file.as_str(), SOURCE_LIMIT) {
-        Ok(bytes) => {
-            if bytes.len() > SOURCE_LIMIT {
-                Err(CoreErr::TooLarge {
-                    limit: Limit::Source,
-                })
-            } else {
-                Ok(bytes)
-            }
-        }
-        Err(HostErr::Failed) => Err(CoreErr::HostFault),
-        Err(HostErr::NoMemory) => Err(CoreErr::NoMemory),
-    }
-}
 
 /// Runs code that is over within the cycles.
 #[tactic(auto, using(crate::proofs::Ran::ended, crate::proofs::Ran::reported, crate::proofs::Ran::not_spent, crate::proofs::Ran::begins_output))]
@@ -70,7 +43,10 @@ fn run_code<H: Host>(alloc: Global, code: &WideCode<Four>, host: &mut H) -> Resu
     ensures never { H.sure host.old → IsErrOf result CoreErr.HostFault → ⊥ }
 {
     match simulate(alloc, code, host, CYCLES) {
-        Ok(SimOutcome::Ended { result, cycles }) => Ok(Success::Ended { result, cycles }),
+        Ok(SimOutcome::Ended { result, cycles }) => Ok(Success::Ran {
+            outcome: Outcome::Ended(result),
+            cycles,
+        }),
         Ok(
             SimOutcome::Reported {
                 place,
@@ -78,9 +54,8 @@ fn run_code<H: Host>(alloc: Global, code: &WideCode<Four>, host: &mut H) -> Resu
                 cycles,
             },
         ) => {
-            Ok(Success::Faulted {
-                place,
-                kind,
+            Ok(Success::Ran {
+                outcome: Outcome::Faulted { place, kind },
                 cycles,
             })
         }
@@ -110,8 +85,56 @@ fn run_program<H: Host>(alloc: Global, program: &Program, host: &mut H) -> Resul
     }
 }
 
+/// The program of a typed source that is in the first form: it is asked of the tokens still, not of the tree.
+#[tactic(auto, using(crate::proofs::Forms::has_first_form, crate::proofs::Forms::short_program, crate::proofs::Forms::refuses_to_run))]
+fn read_form(alloc: Global, bytes: &[u8], tokens: &[Token]) -> Result<Program, SourceErr>
+    requires cut { AreTokens bytes.now tokens.now }
+    requires typed { (meant : Typed) × HasProgram bytes.now meant }
+    ensures program { IfOk result (HasFirstForm bytes.now) }
+    ensures short { IfOk result IsShort }
+    ensures refused { IfErr result (RefusesToRun bytes.now) }
+{
+    match read(alloc, bytes, tokens) {
+        Ok(program) => Ok(program),
+        Err(ReadErr::NotFirstForm) => Err(SourceErr::Fault {
+            place: Place { line: 1, col: 1 },
+            fault: SourceFault::NotInThisVersion,
+        }),
+        Err(ReadErr::NoMemory) => Err(SourceErr::NoMemory),
+    }
+}
+
+/// The program of a source's tokens that are in the first form. Typing and its limits come first.
+#[tactic(auto, using(crate::proofs::Forms::refuses_to_run, crate::proofs::Forms::has_some_program))]
+fn form_of_tokens(alloc: Global, bytes: &[u8], tokens: &[Token]) -> Result<Program, SourceErr>
+    requires limit { length bytes.now ≤ 1048576 }
+    requires cut { AreTokens bytes.now tokens.now }
+    ensures program { IfOk result (HasFirstForm bytes.now) }
+    ensures short { IfOk result IsShort }
+    ensures refused { IfErr result (RefusesToRun bytes.now) }
+{
+    match program_of_tokens(alloc, bytes, tokens) {
+        Ok(_) => read_form(alloc, bytes, tokens),
+        Err(refusal) => Err(refusal),
+    }
+}
+
+/// The program of a source in the first form.
+#[tactic(auto, using(crate::proofs::Forms::refuses_to_run))]
+fn form_of(alloc: Global, bytes: &[u8]) -> Result<Program, SourceErr>
+    requires { length bytes.now ≤ 1048576 }
+    ensures program { IfOk result (HasFirstForm bytes.now) }
+    ensures short { IfOk result IsShort }
+    ensures refused { IfErr result (RefusesToRun bytes.now) }
+{
+    match tokens_of(alloc, bytes) {
+        Ok(tokens) => form_of_tokens(alloc, bytes, tokens.as_slice()),
+        Err(refusal) => Err(refusal),
+    }
+}
+
 /// Compiles a source and runs its program.
-#[tactic(auto, using(crate::proofs::Working::runs_source, crate::proofs::Working::refuses_broken, crate::proofs::Working::refuses_source, crate::proofs::Working::no_host_fault))]
+#[tactic(auto, using(crate::proofs::Working::runs_source, crate::proofs::Working::refuses_broken, crate::proofs::Working::refuses_source, crate::proofs::Refusing::no_host_fault))]
 fn run_source<H: Host>(
     alloc: Global,
     file: FileName,
@@ -121,16 +144,16 @@ fn run_source<H: Host>(
     requires { length bytes.now ≤ 1048576 }
     ensures ran { IfOk result (λ success. RunsSource bytes.now success (H.world host.old)
         (H.world host.new)) }
-    ensures refused { IfErr result (λ refusal. RefusesSource file bytes.now refusal
-        (H.world host.old) (H.world host.new)) }
+    ensures refused { IfErr result (λ refusal. RefusesSource file (RefusesToRun bytes.now)
+        (BeginsRun bytes.now) refusal (H.world host.old) (H.world host.new)) }
     ensures cause { IsCaused (H.faults host.old) (H.faults host.new)
         (IsErrOf result CoreErr.HostFault) }
     ensures still_sure { H.sure host.old → H.sure host.new }
     ensures never { H.sure host.old → IsErrOf result CoreErr.HostFault → ⊥ }
 {
-    match program_of(alloc, file, bytes) {
+    match form_of(alloc, bytes) {
         Ok(program) => run_program(alloc, &program, host),
-        Err(refusal) => Err(refusal),
+        Err(refusal) => Err(refusal.of_file(file)),
     }
 }
 

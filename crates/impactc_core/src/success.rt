@@ -1,20 +1,34 @@
-use ib_base::{FaultKind, Place};
+use ib_base::Outcome;
 use std::fmt;
 
 /// What the work of a command came to, where nothing was refused.
 #[derive(Clone, Copy, Debug)]
 pub enum Success {
-    /// The code ended with this result, after so many cycles.
-    Ended {
-        result: i32,
-        cycles: u64,
-    },
-    /// The code reported a fault of the statement at this place, after so many cycles.
-    Faulted {
-        place: Place,
-        kind: FaultKind,
-        cycles: u64,
-    },
+    /// The source has a program within the limits.
+    Checked,
+    /// The program's meaning came out so with the budget.
+    Interpreted(Outcome),
+    /// The code of the program came out so, after so many cycles.
+    Ran { outcome: Outcome, cycles: u64 },
+}
+
+/// An outcome as notes tell it.
+#[derive(Clone, Copy)]
+struct Told(Outcome);
+
+impl fmt::Display for Told {
+    ghost use Rattle.std.specs.Prelude.{Some};
+    ghost use Rattle.impactc_core.specs.Notes.{outcome_text};
+
+    ghost output = { λ told. Some (outcome_text told.0) };
+
+    fn fmt<W: fmt::Write>(&self, f: &mut fmt::Formatter<W>) -> fmt::Result {
+        match self.0 {
+            Outcome::Ended(result) => write!(f, "ended {result}"),
+            Outcome::Faulted { place, kind } => write!(f, "fault {kind} at {place}"),
+            Outcome::Spent => f.write_str("spent"),
+        }
+    }
 }
 
 impl fmt::Display for Success {
@@ -25,12 +39,15 @@ impl fmt::Display for Success {
 
     fn fmt<W: fmt::Write>(&self, f: &mut fmt::Formatter<W>) -> fmt::Result {
         match self {
-            Success::Ended { result, cycles } => write!(f, "ended {result} after {cycles} cycles"),
-            Success::Faulted {
-                place,
-                kind,
-                cycles,
-            } => { write!(f, "fault {kind} at {place} after {cycles} cycles") }
+            Success::Checked => f.write_str("ok"),
+            Success::Interpreted(outcome) => {
+                let told = Told(*outcome);
+                write!(f, "{told}")
+            }
+            Success::Ran { outcome, cycles } => {
+                let told = Told(*outcome);
+                write!(f, "{told} after {cycles} cycles")
+            }
         }
     }
 }

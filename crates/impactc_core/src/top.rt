@@ -1,10 +1,12 @@
-ghost use Rattle.std.specs.Prelude.{◌≡◌, ◌⊎◌, ℕ, List, map, string_bytes, Some, IfOk, IfErr, OnErr, IsErrOf};
+ghost use Rattle.std.specs.Prelude.{◌≡◌, ◌⊎◌, map, string_bytes, Some, IfOk, IfErr, OnErr, IsErrOf};
 ghost use Rattle.ib_base.specs.Cause.{Rose};
-ghost use Rattle.first_form.specs.declared.program.Program.{Program};
-ghost use Rattle.impactc_core.specs.Answers.{AnswerOf, MayChange, LacksInput, Works, Answers, IsCaused, IsRunnable};
+ghost use Rattle.impactc_core.specs.Answers.{AnswerOf, MayChange, LacksInput, CanWork, HasWorked, Works, Answers, IsCaused};
+ghost use Rattle.impactc_core.specs.declared.words.Command.{Command};
 ghost use Rattle.impactc_core.specs.Notes.{status_of, note_of};
 ghost use Rattle.impactc_core.specs.Words.{reading};
 
+use crate::check::check;
+use crate::interp::interp;
 use crate::notes::finish;
 use crate::run::run;
 use crate::{Command, CoreErr, Status, Success, WordsErr, read_words};
@@ -12,7 +14,7 @@ use ib_base::Host;
 use std::alloc::Global;
 
 /// The compiler as a whole: does what the words after the program's name ask for, over a host, and leaves one note.
-#[tactic(auto, using(crate::proofs::Topped::topped, crate::proofs::Topped::rose_after, crate::proofs::Topped::completes))]
+#[tactic(auto, using(crate::proofs::Topped::topped, crate::proofs::Topped::rose_after))]
 pub fn impactc<H: Host>(alloc: Global, words: &[String], host: &mut H) -> Status
     // What the words ask for is done, printed and noted, and the status says so.
     ensures answers { let read = reading (map string_bytes words.now) in
@@ -25,19 +27,18 @@ pub fn impactc<H: Host>(alloc: Global, words: &[String], host: &mut H) -> Status
     ensures sure { H.sure host.old → result ≡ Status.HostFault →
         LacksInput (reading (map string_bytes words.now)) (H.world host.old) }
 
-    // A program within the limits is run, where memory and the host allow it.
-    ensures completes { (file content : List ℕ) (program : Program) →
-        reading (map string_bytes words.now) ≡ Some (Command.Run file) →
-        IsRunnable file (H.world host.old) content program →
-        (result ≡ Status.Done) ⊎ ((result ≡ Status.ProgramFault) ⊎ ((result ≡ Status.NoMemory)
-        ⊎ Rose (H.faults host.old) (H.faults host.new))) }
+    // What can be done is done, where memory and the host allow it.
+    ensures completes { (command : Command) → reading (map string_bytes words.now) ≡ Some command →
+        CanWork command (H.world host.old) →
+        HasWorked command result ⊎ ((result ≡ Status.NoMemory)
+        ⊎ Rose (H.faults host.old) (H.faults host.new)) }
 {
     let work = perform(alloc, words, host);
     finish(alloc, host, &work)
 }
 
 /// The work of the command, all but its note.
-#[tactic(auto, using(crate::proofs::Topped::works_usage, crate::proofs::Topped::works_no_memory, crate::proofs::Topped::works_read))]
+#[tactic(auto, using(crate::proofs::Topped::works_usage, crate::proofs::Topped::works_no_memory, crate::proofs::Topped::works_check, crate::proofs::Topped::works_interp, crate::proofs::Topped::works_run))]
 fn perform<H: Host>(alloc: Global, words: &[String], host: &mut H) -> Result<Success, CoreErr>
     ensures works { let read = reading (map string_bytes words.now) in
         Works (AnswerOf read) (MayChange read) (H.world host.old) (H.world host.new)
@@ -49,6 +50,8 @@ fn perform<H: Host>(alloc: Global, words: &[String], host: &mut H) -> Result<Suc
         LacksInput (reading (map string_bytes words.now)) (H.world host.old) }
 {
     match read_words(alloc, words) {
+        Ok(Command::Check { file }) => check(alloc, file, host),
+        Ok(Command::Interp { file }) => interp(alloc, file, host),
         Ok(Command::Run { file }) => run(alloc, file, host),
         Err(WordsErr::Usage) => Err(CoreErr::Usage),
         Err(WordsErr::NoMemory) => Err(CoreErr::NoMemory),

@@ -1,5 +1,5 @@
 use Rattle.std.proofs.Common.{List, ℕ, sym, subst}
-use Rattle.impactc_core.specs.Answers.{IsSource}
+use Rattle.impactc_core.specs.Sources.{IsSource}
 use Rattle.impactc_core.proofs.Working.{works_source}
 use Rattle.impactc_core.proofs.run.run.Goals as goal
 

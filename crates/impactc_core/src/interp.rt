@@ -1,0 +1,85 @@
+ghost use Rattle.std.specs.Prelude.{◌≡◌, ◌≤◌, length, IfOk, IfErr, OnErr, IsErrOf, Some};
+ghost use Rattle.ib_base.specs.World.{LacksFile};
+ghost use Rattle.ib_run.specs.OverHost.{OverHost};
+ghost use Rattle.c_program.specs.Checked.{program};
+ghost use Rattle.c_interp.specs.Running.{Begins};
+ghost use Rattle.impactc_core.specs.Answers.{IsCaused, MayChange, Works};
+ghost use Rattle.impactc_core.specs.InterpAnswers.{InterpAnswer, BeginsMeaning};
+ghost use Rattle.impactc_core.specs.Notes.{status_of, note_of};
+ghost use Rattle.impactc_core.specs.Work.{Interprets, InterpretsSource, IsBreak, Refuses, RefusesSource};
+
+use crate::front::program_of;
+use crate::source::read_source;
+use crate::{Command, CoreErr, FileName, Success};
+use c_interp::interpret;
+use c_program::Program;
+use ib_base::{Host, RunErr};
+use std::alloc::Global;
+
+/// How many turns of loops and calls a program may take.
+const BUDGET: u64 = 10_000_000;
+
+/// Runs a program by its meaning.
+#[tactic(auto, using(crate::proofs::Interpreting::interprets))]
+fn interpret_program<H: Host>(
+    alloc: Global,
+    checked: &Program,
+    host: &mut H,
+) -> Result<Success, CoreErr>
+    ensures means { IfOk result (λ success. Interprets (program checked.now) success
+        (H.world host.old) (H.world host.new)) }
+    ensures broke { IfErr result IsBreak }
+    ensures printed { OnErr result (OverHost (Begins (program checked.now) 10000000)
+        (H.world host.old) (H.world host.new)) }
+    ensures cause { IsCaused (H.faults host.old) (H.faults host.new)
+        (IsErrOf result CoreErr.HostFault) }
+    ensures still_sure { H.sure host.old → H.sure host.new }
+    ensures never { H.sure host.old → IsErrOf result CoreErr.HostFault → ⊥ }
+{
+    match interpret(alloc, checked, host, BUDGET) {
+        Ok(outcome) => Ok(Success::Interpreted(outcome)),
+        Err(RunErr::Host) => Err(CoreErr::HostFault),
+        Err(RunErr::NoMemory) => Err(CoreErr::NoMemory),
+    }
+}
+
+/// Judges a source and runs its program by its meaning.
+#[tactic(auto, using(crate::proofs::Interpreting::interprets_source, crate::proofs::Interpreting::refuses_broken, crate::proofs::Interpreting::refuses_source, crate::proofs::Refusing::no_host_fault))]
+fn interpret_source<H: Host>(
+    alloc: Global,
+    file: FileName,
+    bytes: &[u8],
+    host: &mut H,
+) -> Result<Success, CoreErr>
+    requires { length bytes.now ≤ 1048576 }
+    ensures means { IfOk result (λ success. InterpretsSource bytes.now success (H.world host.old)
+        (H.world host.new)) }
+    ensures refused { IfErr result (λ refusal. RefusesSource file (Refuses bytes.now)
+        (BeginsMeaning bytes.now) refusal (H.world host.old) (H.world host.new)) }
+    ensures cause { IsCaused (H.faults host.old) (H.faults host.new)
+        (IsErrOf result CoreErr.HostFault) }
+    ensures still_sure { H.sure host.old → H.sure host.new }
+    ensures never { H.sure host.old → IsErrOf result CoreErr.HostFault → ⊥ }
+{
+    match program_of(alloc, bytes) {
+        Ok(checked) => interpret_program(alloc, &checked, host),
+        Err(refusal) => Err(refusal.of_file(file)),
+    }
+}
+
+/// The work of `interp F`.
+#[tactic(auto, using(crate::proofs::Interpreting::works_source, crate::proofs::Interpreting::works_unread))]
+pub fn interp<H: Host>(alloc: Global, file: FileName, host: &mut H) -> Result<Success, CoreErr>
+    ensures works { Works (InterpAnswer file) (MayChange (Some (Command.Interp file)))
+        (H.world host.old) (H.world host.new) (status_of result) (note_of result) }
+    ensures cause { IsCaused (H.faults host.old) (H.faults host.new)
+        (IsErrOf result CoreErr.HostFault) }
+    ensures still_sure { H.sure host.old → H.sure host.new }
+    ensures missing { H.sure host.old → IsErrOf result CoreErr.HostFault → LacksFile
+        (H.world host.old) file }
+{
+    match read_source(alloc, &file, host) {
+        Ok(bytes) => interpret_source(alloc, file, bytes.as_slice(), host),
+        Err(refusal) => Err(refusal),
+    }
+}

@@ -329,11 +329,7 @@ pub(crate) fn run_failing(
 }
 
 /// Runs a `main` with a frame of 16 bytes.
-pub(crate) fn run_main(
-    alloc: Global,
-    body: Vec<Stmt>,
-    budget: u64,
-) -> Result<Ran, AllocError> {
+pub(crate) fn run_main(alloc: Global, body: Vec<Stmt>, budget: u64) -> Result<Ran, AllocError> {
     let functions = vec![in alloc; function(alloc, b"main", 0, 16, body)?]?;
     run_failing(alloc, functions, b"", budget, 0)
 }

@@ -42,12 +42,7 @@ fn behind_one(alloc: Global, expr: Expr) -> Result<Vec<Expr>, AllocError> {
     Ok(vec![in alloc; first, expr]?)
 }
 
-fn for_loop(
-    alloc: Global,
-    start: Vec<Expr>,
-    test: Part,
-    next: Part,
-) -> Result<Stmt, AllocError> {
+fn for_loop(alloc: Global, start: Vec<Expr>, test: Part, next: Part) -> Result<Stmt, AllocError> {
     Ok(Stmt::For {
         number: HERE,
         start,
@@ -83,7 +78,12 @@ fn holding(alloc: Global, holder: Holder, expr: Expr) -> Result<Stmt, AllocError
             test: expr,
             body: empty,
         },
-        Holder::ForStart => for_loop(alloc, behind_one(alloc, expr)?, Part::Missing, Part::Missing)?,
+        Holder::ForStart => for_loop(
+            alloc,
+            behind_one(alloc, expr)?,
+            Part::Missing,
+            Part::Missing,
+        )?,
         Holder::ForTest => for_loop(alloc, Vec::new(alloc), Part::Given(expr), Part::Missing)?,
         Holder::ForNext => for_loop(alloc, Vec::new(alloc), Part::Missing, Part::Given(expr))?,
         Holder::Return => Stmt::Return {
@@ -150,7 +150,11 @@ const OTHERS: [Row; 9] = [
         kind: FaultKind::DivZero,
     },
     Row {
-        nodes: &[Node::Number(4096), Node::Number(0), Node::Two(Two::Update(INT, REM))],
+        nodes: &[
+            Node::Number(4096),
+            Node::Number(0),
+            Node::Two(Two::Update(INT, REM)),
+        ],
         kind: FaultKind::DivZero,
     },
     Row {
@@ -162,7 +166,11 @@ const OTHERS: [Row; 9] = [
         kind: FaultKind::BadAddress,
     },
     Row {
-        nodes: &[Node::Number(1_048_576), Node::Number(5), Node::Two(Two::Update(INT, ADD))],
+        nodes: &[
+            Node::Number(1_048_576),
+            Node::Number(5),
+            Node::Two(Two::Update(INT, ADD)),
+        ],
         kind: FaultKind::BadAddress,
     },
     Row {

@@ -133,7 +133,7 @@ struct Row {
     shows: &'static [u8],
 }
 
-fn row(flow: Flow, budget: u64, outcome: Outcome, shows: &'static [u8]) -> Row {
+fn shown(flow: Flow, budget: u64, outcome: Outcome, shows: &'static [u8]) -> Row {
     Row {
         flow,
         budget,
@@ -147,18 +147,18 @@ fn statements_go_on_where_they_must(rt: HostRuntime) -> Result<(), Fail> {
     let alloc = rt.alloc();
     let ended = Outcome::Ended(0);
     for row in [
-        row(Flow::Nothing, 0, ended, b""),
-        row(Flow::Always, 5, Outcome::Spent, b"xxxxx"),
-        row(Flow::While, 2, Outcome::Spent, b"txtxt"),
-        row(Flow::DoWhile, 0, Outcome::Spent, b""),
-        row(Flow::DoWhile, 1, ended, b"xt"),
-        row(Flow::Never, 0, ended, b"s"),
-        row(Flow::Continue, 2, Outcome::Spent, b"nn"),
-        row(Flow::Break, 1, ended, b""),
-        row(Flow::Return, 1, Outcome::Ended(5), b""),
-        row(Flow::Other, 0, ended, b"y"),
-        row(Flow::Neither, 0, ended, b""),
-        row(Flow::Call, 0, Outcome::Spent, b"xy"),
+        shown(Flow::Nothing, 0, ended, b""),
+        shown(Flow::Always, 5, Outcome::Spent, b"xxxxx"),
+        shown(Flow::While, 2, Outcome::Spent, b"txtxt"),
+        shown(Flow::DoWhile, 0, Outcome::Spent, b""),
+        shown(Flow::DoWhile, 1, ended, b"xt"),
+        shown(Flow::Never, 0, ended, b"s"),
+        shown(Flow::Continue, 2, Outcome::Spent, b"nn"),
+        shown(Flow::Break, 1, ended, b""),
+        shown(Flow::Return, 1, Outcome::Ended(5), b""),
+        shown(Flow::Other, 0, ended, b"y"),
+        shown(Flow::Neither, 0, ended, b""),
+        shown(Flow::Call, 0, Outcome::Spent, b"xy"),
     ] {
         let body = vec![in alloc; flowing(alloc, row.flow)?]?;
         let ran = run_main(alloc, body, row.budget)?;

@@ -115,29 +115,66 @@ const ORDERS: [Row; 18] = [
         shows: b"ab2",
     },
     Row {
-        nodes: &[Node::Number(7), SAY_A, Node::Number(2), SAY_B, Node::Call(1, 2)],
+        nodes: &[
+            Node::Number(7),
+            SAY_A,
+            Node::Number(2),
+            SAY_B,
+            Node::Call(1, 2),
+        ],
         shows: b"ab5",
     },
     Row {
-        nodes: &[FRAME, SAY_A, Node::Number(7), SAY_B, Node::Two(Two::Store(INT))],
+        nodes: &[
+            FRAME,
+            SAY_A,
+            Node::Number(7),
+            SAY_B,
+            Node::Two(Two::Store(INT)),
+        ],
         shows: b"ab7",
     },
     Row {
-        nodes: &[FRAME, SAY_A, Node::Number(7), SAY_B, Node::Two(Two::Update(INT, ADD))],
+        nodes: &[
+            FRAME,
+            SAY_A,
+            Node::Number(7),
+            SAY_B,
+            Node::Two(Two::Update(INT, ADD)),
+        ],
         shows: b"ab7",
     },
     // a store faults behind its right side, and an update in front of it
     Row {
-        nodes: &[Node::Number(0), SAY_A, Node::Number(7), SAY_B, Node::Two(Two::Store(INT))],
+        nodes: &[
+            Node::Number(0),
+            SAY_A,
+            Node::Number(7),
+            SAY_B,
+            Node::Two(Two::Store(INT)),
+        ],
         shows: b"ab",
     },
     Row {
-        nodes: &[Node::Number(0), SAY_A, Node::Number(7), SAY_B, Node::Two(Two::Update(INT, ADD))],
+        nodes: &[
+            Node::Number(0),
+            SAY_A,
+            Node::Number(7),
+            SAY_B,
+            Node::Two(Two::Update(INT, ADD)),
+        ],
         shows: b"a",
     },
     // bounds are tested in front of the right side
     Row {
-        nodes: &[Node::Number(4), SAY_A, INSIDE, Node::Number(7), SAY_B, Node::Two(Two::Store(INT))],
+        nodes: &[
+            Node::Number(4),
+            SAY_A,
+            INSIDE,
+            Node::Number(7),
+            SAY_B,
+            Node::Two(Two::Store(INT)),
+        ],
         shows: b"a",
     },
     // the old value is read in front of a right side that changes it
@@ -185,11 +222,17 @@ const VALUES: [Row; 30] = [
         shows: b"2147483648",
     },
     Row {
-        nodes: &[Node::Number(5), Node::One(One::Unary(Sign::Minus, Rank::Int))],
+        nodes: &[
+            Node::Number(5),
+            Node::One(One::Unary(Sign::Minus, Rank::Int)),
+        ],
         shows: b"-5",
     },
     Row {
-        nodes: &[Node::Number(5), Node::One(One::Unary(Sign::BitNot, Rank::Int))],
+        nodes: &[
+            Node::Number(5),
+            Node::One(One::Unary(Sign::BitNot, Rank::Int)),
+        ],
         shows: b"-6",
     },
     Row {
@@ -202,7 +245,13 @@ const VALUES: [Row; 30] = [
     },
     // what is stored is converted, and a step behind gives the old value
     Row {
-        nodes: &[Node::Number(255), SET, Node::Number(1), Node::One(One::UpdateSlot(CHAR, ADD)), COMMA],
+        nodes: &[
+            Node::Number(255),
+            SET,
+            Node::Number(1),
+            Node::One(One::UpdateSlot(CHAR, ADD)),
+            COMMA,
+        ],
         shows: b"0",
     },
     Row {
@@ -210,7 +259,14 @@ const VALUES: [Row; 30] = [
         shows: b"255",
     },
     Row {
-        nodes: &[Node::Number(255), SET, Node::StepSlot(CHAR), COMMA, Node::Slot(0), COMMA],
+        nodes: &[
+            Node::Number(255),
+            SET,
+            Node::StepSlot(CHAR),
+            COMMA,
+            Node::Slot(0),
+            COMMA,
+        ],
         shows: b"0",
     },
     Row {
@@ -335,7 +391,14 @@ const VALUES: [Row; 30] = [
         shows: b"0",
     },
     Row {
-        nodes: &[Node::Number(9), SET, Node::Call(2, 0), COMMA, Node::Slot(0), COMMA],
+        nodes: &[
+            Node::Number(9),
+            SET,
+            Node::Call(2, 0),
+            COMMA,
+            Node::Slot(0),
+            COMMA,
+        ],
         shows: b"9",
     },
     Row {

@@ -2,17 +2,16 @@
 use Rattle.std.proofs.Common.{◌≡◌, ◌⊎◌, inl, inr, ℕ, List, Option, Some, None, refl, sym, ◌∙◌, subst}
 use Rattle.std.specs.Prelude.{IsSomeAnd, IfSome}
 use Rattle.std.specs.FinMap.{get}
-use Rattle.ib_base.specs.World.{World, Disk, HasFile}
+use Rattle.ib_base.specs.World.{World, Disk}
 use Rattle.c_typed.specs.Program.{Program as Typed}
 use Rattle.first_form.specs.declared.program.Program.{Program}
-use Rattle.impactc_core.specs.declared.core_err.Limit.{Limit}
 use Rattle.impactc_core.specs.declared.status.Status.{Status}
 use Rattle.impactc_core.specs.declared.status.Status.TheVariants.{Done, Usage, SourceRefused, ProfileRefused, CodeRefused, HostFault, NoMemory, TooLarge, ProgramFault, CyclesSpent}
 use Rattle.impactc_core.specs.declared.words.Command.{Command}
 use Rattle.impactc_core.specs.declared.words.Command.TheVariants.{Check, Interp, Run}
 use Rattle.impactc_core.specs.Answers.{AnswerOf, MayChange, CanWork, HasWorked, Answers}
-use Rattle.impactc_core.specs.RunAnswers.{HasFirstForm, HasOtherForm, IsNotCompiled}
-use Rattle.impactc_core.specs.Sources.{HasProgram, HasFault, IsKnown, IsPast, IsRefused, IsTooLarge}
+use Rattle.impactc_core.specs.RunAnswers.{HasFirstForm, IsNotCompiled}
+use Rattle.impactc_core.specs.Sources.{HasProgram, IsKnown, IsPast, IsRefused, IsTooLarge}
 use Rattle.impactc_core.proofs.Forms.{no_other_form}
 use Rattle.impactc_core.proofs.Fronts.{no_fault, no_past}
 

@@ -1,5 +1,5 @@
 -- A typed source that is in the first form, or not.
-use Rattle.std.proofs.Common.{◌≡◌, inl, inr, ℕ, suc, List, [], ◌∷◌, length, arith, refl, sym, ap, subst}
+use Rattle.std.proofs.Common.{◌≡◌, inl, inr, ℕ, suc, List, [], ◌∷◌, length, arith, refl, ap, subst}
 use Rattle.c_ast.specs.declared.token.Token.{Token}
 use Rattle.c_ast.specs.Cut.{AreTokens}
 use Rattle.c_typed.specs.Program.{Program as Typed}

@@ -1,5 +1,5 @@
 -- A source's tokens, unit and program, and why it has none.
-use Rattle.std.proofs.Common.{◌≡◌, ◌≤◌, ℕ, List, length, arith, Option, Some, None, refl, sym, ap, ◌∙◌, subst}
+use Rattle.std.proofs.Common.{◌≡◌, ◌≤◌, ℕ, List, length, arith, Some, None, refl, sym, ap, ◌∙◌, subst}
 use Rattle.ib_meaning.specs.declared.place.Place.{Place}
 use Rattle.c_ast.specs.declared.token.Token.{Token}
 use Rattle.c_ast.specs.Cut.{AreTokens, whole, stopped}
@@ -19,7 +19,7 @@ use Rattle.c_parse.specs.declared.parser.ParseErr.TheVariants.{TooDeep, Syntax a
 use Rattle.c_parse.specs.Parses.{Refuses as RefusesTokens}
 use Rattle.c_program.specs.declared.error.CheckErr.{CheckErr}
 use Rattle.c_program.specs.declared.error.CheckErr.TheVariants.{Rule as Broken, Globals as LargeGlobals, Frame as LargeFrame, NoMemory as NoSpace}
-use Rattle.c_program.specs.Limits.{Limited, within, large_globals, large_frame}
+use Rattle.c_program.specs.Limits.{within, large_globals, large_frame}
 use Rattle.c_typed.specs.Program.{Program}
 use Rattle.c_types.specs.Typing.{IsTyped, Refused, Verdict, verdict, keeps_rules, breaks_rule}
 use Rattle.parse_machine.proofs.Answered.{one_tree}
@@ -27,7 +27,7 @@ use Rattle.impactc_core.specs.declared.core_err.Limit.{Limit}
 use Rattle.impactc_core.specs.declared.core_err.Limit.TheVariants.{Source as SourceBytes, Nesting, Globals, Frame}
 use Rattle.impactc_core.specs.declared.core_err.SourceFault.{SourceFault}
 use Rattle.impactc_core.specs.declared.core_err.SourceFault.TheVariants.{Lexical, Syntax, Typing, NotInThisVersion}
-use Rattle.impactc_core.specs.Sources.{HasUnit, HasProgram, IsJudged, HasFault, IsPast, NestsTooDeep}
+use Rattle.impactc_core.specs.Sources.{HasUnit, HasProgram, IsJudged, HasFault, IsPast}
 use Rattle.impactc_core.specs.Work.{Refuses, lexical_refusal, phrase_refusal, typing_refusal, rule_of}
 
 -- ---- what a source has

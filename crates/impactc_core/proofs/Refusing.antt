@@ -1,5 +1,5 @@
 -- The work of a command that refuses its source, or whose run breaks off.
-use Rattle.std.proofs.Common.{◌≡◌, ℕ, List, Result, Err, refl, sym, subst}
+use Rattle.std.proofs.Common.{◌≡◌, ℕ, List, Err, refl, sym, subst}
 use Rattle.std.specs.Prelude.{IsErrOf}
 use Rattle.ib_base.specs.World.{World}
 use Rattle.impactc_core.specs.declared.core_err.CoreErr.{CoreErr}

@@ -1,5 +1,5 @@
 -- The work of `run F`, put together.
-use Rattle.std.proofs.Common.{◌≡◌, ◌⊎◌, inl, inr, ℕ, List, Result, Ok, Err, IfOk, IfErr, Some, refl, sym, subst}
+use Rattle.std.proofs.Common.{◌≡◌, inl, inr, ℕ, List, Result, Ok, Err, IfOk, IfErr, Some, refl, sym, subst}
 use Rattle.ib_meaning.specs.Agreement.{Finish, Returned, Faulted, IsPrefix, out_of}
 use Rattle.ib_meaning.proofs.Agreement.{prefix_refl}
 use Rattle.ib_base.specs.World.{World}
@@ -17,7 +17,7 @@ use Rattle.impactc_core.specs.Notes.{status_of, note_of}
 use Rattle.impactc_core.specs.RunAnswers.{BeginsRun, HasFirstForm, HasRun, RunAnswer}
 use Rattle.impactc_core.specs.Runs.{BeginsOutput, EndsAlike, outcome_of}
 use Rattle.impactc_core.specs.Sources.{IsSource}
-use Rattle.impactc_core.specs.Work.{IsBreak, IsOutside, IsReadErr, Refuses, RefusesFile, RefusesSource, RefusesToRun, RunsProgram, RunsSource, of_file}
+use Rattle.impactc_core.specs.Work.{IsBreak, IsReadErr, Refuses, RefusesFile, RefusesSource, RefusesToRun, RunsProgram, RunsSource, of_file}
 use Rattle.impactc_core.proofs.Refusing as refusing
 use Rattle.impactc_core.proofs.Refusing.{Takes, refuses_file, works_refused, works_broken}
 

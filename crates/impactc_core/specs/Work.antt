@@ -36,7 +36,7 @@ use Rattle.impactc_core.specs.declared.success.Success.TheVariants.{Checked, Int
 use Rattle.impactc_core.specs.Answers.{IsPlain}
 use Rattle.impactc_core.specs.Notes.{refusal_note, status_of, note_of}
 use Rattle.impactc_core.specs.RunAnswers.{HasFirstForm, HasOtherForm}
-use Rattle.impactc_core.specs.Runs.{BeginsOutput, EndsAlike, code_meaning, outcome_of}
+use Rattle.impactc_core.specs.Runs.{EndsAlike, code_meaning, outcome_of}
 use Rattle.impactc_core.specs.Sources.{HasProgram, HasFault, IsPast, place_of}
 
 -- ---- the source

@@ -47,7 +47,7 @@ fn are_right(rt: &HostRuntime) -> io::Result<bool> {
 
 fn is_asked_for_output(rt: &HostRuntime) -> io::Result<bool> {
     let first = env::args(rt)?.nth(1);
-    Ok(first.is_some_and(|word| word == "out"))
+    Ok(first.is_some_and(|word| word.as_str() == "out"))
 }
 
 /// Interprets a program, and tells how long it took.

@@ -1,11 +1,11 @@
-//! Tests of the interpreter on whole programs.
+//! Tests of the interpreter on source texts.
 #![tactic(auto)]
 
 #[cfg(test)]
-mod build;
+mod budgets;
 #[cfg(test)]
 mod faults;
 #[cfg(test)]
-mod flow;
+mod runs;
 #[cfg(test)]
 mod values;

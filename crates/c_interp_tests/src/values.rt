@@ -1,490 +1,174 @@
-use crate::build::{
-    ADD, Node, One, SUB, Two, expression, function, giving, run_failing, statement,
-};
-use c_ast::Base;
-use c_typed::{
-    Arithmetic, Comparison, Function, INT, LONG, Operation, Rank, Reach, Sign, Storage, ValueType,
-};
-use std::alloc::{AllocError, Global};
+use crate::runs::comes;
+use ib_base::Outcome;
 use std::test::Fail;
 
-const CHAR: ValueType = ValueType::Base(Base::Char);
+/// Globals, functions and the head of `main`. What `say` gives it prints first.
+const FRONT: &str =
+    "int g[4];int k=258;char s[]=\"hi\";char *w=\"yo\";int z;int m=-1;int l=-2147483648;long q=2147483647;char c;int x;int *p;\nint say(int v){putint(v);return v;}int less(int a,int b){return a-b;}int low(char v){return v;}char cut(int v){return v;}int ends(void){}\nint stepped(void){int b[2];return b[1]++;}int fresh(void){int t=0;for(int i=0;i<2;i++){int y;t=t+y;y=5;}return t;}\nint kept(void){int t=0;for(int i=0;i<2;i++){int b[1];t=t+b[0];b[0]=5;}return t;}\nint main(void){\n";
 
-/// Where the frame of `main` begins.
-const FRAME: Node = Node::Number(4112);
-
-const COMMA: Node = Node::Two(Two::Comma);
-
-const SAY_A: Node = Node::One(One::Say(b'a'));
-
-const SAY_B: Node = Node::One(One::Say(b'b'));
-
-const SAY_C: Node = Node::One(One::Say(b'c'));
-
-const AND: Node = Node::Two(Two::And);
-
-const OR: Node = Node::Two(Two::Or);
-
-const SET: Node = Node::One(One::SetSlot(0));
-
-const INSIDE: Node = Node::One(One::Element(Reach::Inside));
-
-/// `main`, and three functions that it may call: the difference of two arguments, one that falls off
-/// its end, and one that gives a number of its frame and steps it.
-fn functions(alloc: Global, nodes: &[Node]) -> Result<Vec<Function>, AllocError> {
-    let shown = vec![in alloc; statement(expression(alloc, nodes)?)]?;
-    let difference = [Node::Slot(0), Node::Slot(1), Node::Two(Two::Do(SUB))];
-    let difference = vec![in alloc; giving(alloc, &difference)?]?;
-    let stepped = [Node::Number(0), INSIDE, Node::One(One::Step(INT))];
-    let stepped = vec![in alloc; giving(alloc, &stepped)?]?;
-    let mut all = Vec::new(alloc);
-    all.push(function(alloc, b"main", 0, 16, shown)?)?;
-    all.push(function(alloc, b"difference", 2, 0, difference)?)?;
-    all.push(function(alloc, b"ends", 0, 0, Vec::new(alloc))?)?;
-    all.push(function(alloc, b"stepped", 0, 16, stepped)?)?;
-    Ok(all)
-}
-
-/// What is printed where a value is evaluated, and then the value in decimal.
-fn shown(alloc: Global, nodes: &[Node]) -> Result<Vec<u8>, AllocError> {
-    let mut all = Vec::from_slice(alloc, nodes)?;
-    all.push(Node::One(One::PutNumber))?;
-    let functions = functions(alloc, all.as_slice())?;
-    let ran = run_failing(alloc, functions, b"A", 2, 0)?;
-    Vec::from_slice(alloc, ran.host.output())
-}
-
-#[derive(Clone, Copy)]
-struct Row {
-    nodes: &'static [Node],
-    shows: &'static [u8],
-}
-
-/// Operands that print say in which order they are evaluated.
-const ORDERS: [Row; 18] = [
-    Row {
-        nodes: &[Node::Number(0), SAY_A, Node::Number(1), SAY_B, AND],
-        shows: b"a0",
-    },
-    Row {
-        nodes: &[Node::Number(2), SAY_A, Node::Number(3), SAY_B, AND],
-        shows: b"ab1",
-    },
-    Row {
-        nodes: &[Node::Number(2), SAY_A, Node::Number(0), SAY_B, AND],
-        shows: b"ab0",
-    },
-    Row {
-        nodes: &[Node::Number(5), SAY_A, Node::Number(0), SAY_B, OR],
-        shows: b"a1",
-    },
-    Row {
-        nodes: &[Node::Number(0), SAY_A, Node::Number(5), SAY_B, OR],
-        shows: b"ab1",
-    },
-    Row {
-        nodes: &[Node::Number(0), SAY_A, Node::Number(0), SAY_B, OR],
-        shows: b"ab0",
-    },
-    Row {
-        nodes: &[
-            Node::Number(1),
-            SAY_A,
-            Node::Number(7),
-            SAY_B,
-            Node::Number(8),
-            SAY_C,
-            Node::Choice,
-        ],
-        shows: b"ab7",
-    },
-    Row {
-        nodes: &[
-            Node::Number(0),
-            SAY_A,
-            Node::Number(7),
-            SAY_B,
-            Node::Number(8),
-            SAY_C,
-            Node::Choice,
-        ],
-        shows: b"ac8",
-    },
-    Row {
-        nodes: &[Node::Number(1), SAY_A, Node::Number(2), SAY_B, COMMA],
-        shows: b"ab2",
-    },
-    Row {
-        nodes: &[
-            Node::Number(7),
-            SAY_A,
-            Node::Number(2),
-            SAY_B,
-            Node::Call(1, 2),
-        ],
-        shows: b"ab5",
-    },
-    Row {
-        nodes: &[
-            FRAME,
-            SAY_A,
-            Node::Number(7),
-            SAY_B,
-            Node::Two(Two::Store(INT)),
-        ],
-        shows: b"ab7",
-    },
-    Row {
-        nodes: &[
-            FRAME,
-            SAY_A,
-            Node::Number(7),
-            SAY_B,
-            Node::Two(Two::Update(INT, ADD)),
-        ],
-        shows: b"ab7",
-    },
-    // a store faults behind its right side, and an update in front of it
-    Row {
-        nodes: &[
-            Node::Number(0),
-            SAY_A,
-            Node::Number(7),
-            SAY_B,
-            Node::Two(Two::Store(INT)),
-        ],
-        shows: b"ab",
-    },
-    Row {
-        nodes: &[
-            Node::Number(0),
-            SAY_A,
-            Node::Number(7),
-            SAY_B,
-            Node::Two(Two::Update(INT, ADD)),
-        ],
-        shows: b"a",
-    },
-    // bounds are tested in front of the right side
-    Row {
-        nodes: &[
-            Node::Number(4),
-            SAY_A,
-            INSIDE,
-            Node::Number(7),
-            SAY_B,
-            Node::Two(Two::Store(INT)),
-        ],
-        shows: b"a",
-    },
-    // the old value is read in front of a right side that changes it
-    Row {
-        nodes: &[Node::Number(5), SET, Node::One(One::UpdateSlot(INT, ADD))],
-        shows: b"5",
-    },
-    Row {
-        nodes: &[
-            FRAME,
-            FRAME,
-            Node::Number(5),
-            Node::Two(Two::Store(INT)),
-            Node::Two(Two::Update(INT, ADD)),
-        ],
-        shows: b"5",
-    },
-    Row {
-        nodes: &[
-            Node::Number(5),
-            SET,
-            Node::Number(1),
-            Node::One(One::UpdateSlot(INT, SUB)),
-            Node::Two(Two::Do(SUB)),
-        ],
-        shows: b"1",
-    },
+/// Operators between `say(7)` and `say(2)`, and what is printed, the value in the end.
+const OPERATORS: [(&str, &str); 19] = [
+    ("+", "729"),
+    ("-", "725"),
+    ("*", "7214"),
+    ("/", "723"),
+    ("%", "721"),
+    ("<<", "7228"),
+    (">>", "721"),
+    ("<", "720"),
+    (">", "721"),
+    ("<=", "720"),
+    (">=", "721"),
+    ("==", "720"),
+    ("!=", "721"),
+    ("&", "722"),
+    ("^", "725"),
+    ("|", "727"),
+    ("&&", "721"),
+    ("||", "71"),
+    (",", "722"),
 ];
 
-const VALUES: [Row; 30] = [
-    Row {
-        nodes: &[Node::Number(256), Node::One(One::Convert(CHAR))],
-        shows: b"0",
-    },
-    Row {
-        nodes: &[Node::Number(-1), Node::One(One::Convert(CHAR))],
-        shows: b"255",
-    },
-    Row {
-        nodes: &[Node::Number(2_147_483_648), Node::One(One::Convert(INT))],
-        shows: b"-2147483648",
-    },
-    Row {
-        nodes: &[Node::Number(2_147_483_648), Node::One(One::Convert(LONG))],
-        shows: b"2147483648",
-    },
-    Row {
-        nodes: &[
-            Node::Number(5),
-            Node::One(One::Unary(Sign::Minus, Rank::Int)),
-        ],
-        shows: b"-5",
-    },
-    Row {
-        nodes: &[
-            Node::Number(5),
-            Node::One(One::Unary(Sign::BitNot, Rank::Int)),
-        ],
-        shows: b"-6",
-    },
-    Row {
-        nodes: &[Node::Number(5), Node::One(One::Not)],
-        shows: b"0",
-    },
-    Row {
-        nodes: &[Node::Number(0), Node::One(One::Not)],
-        shows: b"1",
-    },
-    // what is stored is converted, and a step behind gives the old value
-    Row {
-        nodes: &[
-            Node::Number(255),
-            SET,
-            Node::Number(1),
-            Node::One(One::UpdateSlot(CHAR, ADD)),
-            COMMA,
-        ],
-        shows: b"0",
-    },
-    Row {
-        nodes: &[Node::Number(255), SET, Node::StepSlot(CHAR), COMMA],
-        shows: b"255",
-    },
-    Row {
-        nodes: &[
-            Node::Number(255),
-            SET,
-            Node::StepSlot(CHAR),
-            COMMA,
-            Node::Slot(0),
-            COMMA,
-        ],
-        shows: b"0",
-    },
-    Row {
-        nodes: &[
-            FRAME,
-            Node::Number(255),
-            Node::Two(Two::Store(CHAR)),
-            FRAME,
-            Node::One(One::Step(CHAR)),
-            COMMA,
-        ],
-        shows: b"255",
-    },
-    Row {
-        nodes: &[
-            FRAME,
-            Node::Number(255),
-            Node::Two(Two::Store(CHAR)),
-            FRAME,
-            Node::One(One::Step(CHAR)),
-            COMMA,
-            FRAME,
-            Node::One(One::Load(CHAR)),
-            COMMA,
-        ],
-        shows: b"0",
-    },
-    Row {
-        nodes: &[
-            FRAME,
-            Node::Number(255),
-            Node::Two(Two::Store(CHAR)),
-            FRAME,
-            Node::Number(2),
-            Node::Two(Two::Update(CHAR, ADD)),
-            COMMA,
-        ],
-        shows: b"1",
-    },
-    Row {
-        nodes: &[
-            FRAME,
-            Node::Number(-2),
-            Node::Two(Two::Store(LONG)),
-            FRAME,
-            Node::One(One::Load(CHAR)),
-            COMMA,
-        ],
-        shows: b"254",
-    },
-    Row {
-        nodes: &[
-            FRAME,
-            Node::Number(-2),
-            Node::Two(Two::Store(LONG)),
-            FRAME,
-            Node::One(One::Load(INT)),
-            COMMA,
-        ],
-        shows: b"-2",
-    },
-    Row {
-        nodes: &[
-            FRAME,
-            Node::Number(-1),
-            Node::Two(Two::Store(LONG)),
-            FRAME,
-            Node::Number(0),
-            Node::Two(Two::Store(CHAR)),
-            COMMA,
-            FRAME,
-            Node::One(One::Load(LONG)),
-            COMMA,
-        ],
-        shows: b"-256",
-    },
-    // where things lie
-    Row {
-        nodes: &[Node::Address(Storage::Frame(8))],
-        shows: b"4120",
-    },
-    Row {
-        nodes: &[Node::Number(3), INSIDE],
-        shows: b"4124",
-    },
-    Row {
-        nodes: &[Node::Number(4), Node::One(One::Element(Reach::ToEnd))],
-        shows: b"4128",
-    },
-    Row {
-        nodes: &[Node::Address(Storage::Global(0)), Node::One(One::Load(INT))],
-        shows: b"258",
-    },
-    Row {
-        nodes: &[Node::Number(4100), Node::One(One::Load(INT))],
-        shows: b"0",
-    },
-    Row {
-        nodes: &[Node::Text(0), Node::One(One::Load(CHAR))],
-        shows: b"104",
-    },
-    // what the host gives and takes
-    Row {
-        nodes: &[Node::GetByte, Node::GetByte, Node::Two(Two::Do(SUB))],
-        shows: b"66",
-    },
-    Row {
-        nodes: &[Node::GetByte, Node::GetByte, COMMA, Node::GetByte, COMMA],
-        shows: b"-1",
-    },
-    Row {
-        nodes: &[Node::Number(353), Node::One(One::PutByte)],
-        shows: b"a97",
-    },
-    Row {
-        nodes: &[Node::Number(-12), Node::One(One::PutNumber)],
-        shows: b"-120",
-    },
-    // calls
-    Row {
-        nodes: &[Node::Call(2, 0)],
-        shows: b"0",
-    },
-    Row {
-        nodes: &[
-            Node::Number(9),
-            SET,
-            Node::Call(2, 0),
-            COMMA,
-            Node::Slot(0),
-            COMMA,
-        ],
-        shows: b"9",
-    },
-    Row {
-        nodes: &[Node::Call(3, 0), Node::Call(3, 0), COMMA],
-        shows: b"0",
-    },
+/// Expressions that print or change what they read.
+const ORDERS: [(&str, &str); 16] = [
+    ("say(0)&&say(1)", "00"),
+    ("say(2)&&say(0)", "200"),
+    ("say(0)||say(5)", "051"),
+    ("say(0)||say(0)", "000"),
+    ("say(1)?say(7):say(8)", "177"),
+    ("say(0)?say(7):say(8)", "088"),
+    ("less(say(7),say(2))", "725"),
+    ("g[say(1)]=say(7)", "177"),
+    ("g[say(1)]+=say(7)", "177"),
+    ("*(g+say(2))-=say(7)", "27-7"),
+    ("x+=x=5", "5"),
+    ("g[1]+=g[1]=5", "5"),
+    ("(x=5)-(x-=1)", "1"),
+    ("x+(x=5)+x", "10"),
+    ("(x=3,x*x)", "9"),
+    ("-say(1)+!say(2)", "12-1"),
 ];
+
+/// Expressions and their values.
+const VALUES: [(&str, &str); 62] = [
+    ("(char)256", "0"),
+    ("(char)-1", "255"),
+    ("(int)2147483648", "-2147483648"),
+    ("(int)4294967297", "1"),
+    ("(long)-1", "-1"),
+    ("-k", "-258"),
+    ("~5", "-6"),
+    ("!5", "0"),
+    ("!0", "1"),
+    ("+k", "258"),
+    ("2147483647+1", "-2147483648"),
+    ("2147483647L+1", "2147483648"),
+    ("q+1", "2147483648"),
+    ("l-1", "2147483647"),
+    ("-l", "-2147483648"),
+    ("65536*65536", "0"),
+    ("65536*65536L", "4294967296"),
+    ("-7/2", "-3"),
+    ("-7%2", "-1"),
+    ("7/-2", "-3"),
+    ("-7>>1", "-4"),
+    ("1<<33", "2"),
+    ("1L<<33", "8589934592"),
+    ("1<<-1", "-2147483648"),
+    ("-1>>31", "-1"),
+    ("(c=255,c+=1)", "0"),
+    ("(c=255,c++)", "255"),
+    ("(c=255,c++,c)", "0"),
+    ("(c=0,--c)", "255"),
+    ("(c=200,c+c)", "400"),
+    ("c=300", "44"),
+    ("(int)(q=4294967296)", "0"),
+    ("1?2:3L", "2"),
+    ("-1<0L", "1"),
+    ("'a'+1", "98"),
+    ("-1&255", "255"),
+    ("1|6^3", "5"),
+    ("low(300)", "44"),
+    ("cut(300)", "44"),
+    ("ends()", "0"),
+    ("stepped()+stepped()", "0"),
+    ("fresh()", "0"),
+    ("kept()", "5"),
+    ("k", "258"),
+    ("s[1]", "105"),
+    ("w[1]", "111"),
+    ("*w", "121"),
+    ("\"hi\"[1]", "105"),
+    ("*(w+2)", "0"),
+    ("s[2]", "0"),
+    ("&g[4]-g", "4"),
+    ("p==NULL", "1"),
+    ("p<g", "1"),
+    ("(p=g,p+=2,p-g)", "2"),
+    ("(p=&g[1],*p=3,g[1])", "3"),
+    ("(p=g,*p++=4,p-g+g[0])", "5"),
+    ("(p=&k,*&*p)", "258"),
+    ("NULL?1:2", "2"),
+    ("getchar()", "65"),
+    ("getchar()-getchar()", "66"),
+    ("(getchar(),getchar(),getchar())", "-1"),
+    ("putchar(353)", "a97"),
+];
+
+/// Statements, and what they print.
+const STATEMENTS: [(&str, &str); 18] = [
+    ("if(1)putint(1);else putint(2);", "1"),
+    ("if(0)putint(1);else putint(2);", "2"),
+    ("if(0)if(1)putint(1);else putint(2);putint(3);", "3"),
+    ("if(p)putint(1);if(!p)putint(2);", "2"),
+    ("while(x<3){putint(x);x++;}", "012"),
+    ("do{putint(x);}while(x);", "0"),
+    ("do{x++;if(x<3)continue;putint(x);}while(x<4);", "34"),
+    (
+        "for(x=0;x<5;x++){if(x==1)continue;if(x==3)break;putint(x);}",
+        "02",
+    ),
+    ("for(x=0;x<2;x++){for(;;)break;putint(x);}", "01"),
+    ("while(1){while(1)break;putint(8);break;}putint(9);", "89"),
+    ("for(int i=0,j=9;i<j;i++,j--)putint(j);", "98765"),
+    ("{int x=3;putint(x);}putint(x);", "30"),
+    ("for(int x=1;x<2;x++)putint(x);putint(x);", "10"),
+    ("int x=7;{int x=x;putint(x);}", "0"),
+    (";;putint(1),putint(2);", "12"),
+    ("int y=4,*r=&y;*r=5;putint(y);", "5"),
+    ("char b[3];b[0]=255;b[1]=b[0]+1;putint(b[0]+b[1]);", "255"),
+    ("int *r[2];r[1]=&k;putint(*r[1]);", "258"),
+];
+
+const ENDED: Outcome = Outcome::Ended(0);
 
 #[test]
-fn values_are_as_they_must_be(rt: HostRuntime) -> Result<(), Fail> {
-    let alloc = rt.alloc();
-    for row in ORDERS {
-        assert_eq!(rt; shown(alloc, row.nodes)?.as_slice(), row.shows);
+fn operands_are_evaluated_from_left_to_right(rt: HostRuntime) -> Result<(), Fail> {
+    for (operator, prints) in OPERATORS {
+        let parts = [FRONT, "putint((say(7)", operator, "say(2)));\n}"];
+        comes(&rt, rt.alloc(), &parts, 100, ENDED, prints.as_bytes())?;
     }
-    for row in VALUES {
-        assert_eq!(rt; shown(alloc, row.nodes)?.as_slice(), row.shows);
+    for (expression, prints) in ORDERS {
+        let parts = [FRONT, "putint(", expression, ");\n}"];
+        comes(&rt, rt.alloc(), &parts, 100, ENDED, prints.as_bytes())?;
     }
     Ok(())
 }
 
-/// What an operator gives of operands that print `a` and `b`.
-#[derive(Clone, Copy)]
-struct Operator {
-    op: Operation,
-    left: i64,
-    right: i64,
-    shows: &'static [u8],
-}
-
-fn integer(op: Arithmetic, left: i64, right: i64, shows: &'static [u8]) -> Operator {
-    let rank = Rank::Int;
-    Operator {
-        op: Operation::Integer { op, rank },
-        left,
-        right,
-        shows,
+#[test]
+fn expressions_have_their_values(rt: HostRuntime) -> Result<(), Fail> {
+    for (expression, prints) in VALUES {
+        let parts = [FRONT, "putint(", expression, ");\n}"];
+        comes(&rt, rt.alloc(), &parts, 100, ENDED, prints.as_bytes())?;
     }
-}
-
-fn compared(op: Comparison, left: i64, right: i64, shows: &'static [u8]) -> Operator {
-    Operator {
-        op: Operation::Compare(op),
-        left,
-        right,
-        shows,
-    }
-}
-
-fn pointed(op: Operation, left: i64, right: i64, shows: &'static [u8]) -> Operator {
-    Operator {
-        op,
-        left,
-        right,
-        shows,
-    }
+    Ok(())
 }
 
 #[test]
-fn operators_evaluate_from_left_to_right(rt: HostRuntime) -> Result<(), Fail> {
-    let alloc = rt.alloc();
-    for operator in [
-        integer(Arithmetic::Add, 2_147_483_647, 1, b"ab-2147483648"),
-        integer(Arithmetic::Sub, 7, 2, b"ab5"),
-        integer(Arithmetic::Mul, 3, -4, b"ab-12"),
-        integer(Arithmetic::Div, -7, 2, b"ab-3"),
-        integer(Arithmetic::Rem, -7, 2, b"ab-1"),
-        integer(Arithmetic::ShiftLeft, 3, 33, b"ab6"),
-        integer(Arithmetic::ShiftRight, -12, 1, b"ab-6"),
-        integer(Arithmetic::BitAnd, 12, 10, b"ab8"),
-        integer(Arithmetic::BitXor, 12, 10, b"ab6"),
-        integer(Arithmetic::BitOr, 12, 10, b"ab14"),
-        compared(Comparison::Equal, 3, 3, b"ab1"),
-        compared(Comparison::NotEqual, 3, 3, b"ab0"),
-        compared(Comparison::Less, 3, 4, b"ab1"),
-        compared(Comparison::LessEqual, 4, 3, b"ab0"),
-        compared(Comparison::Greater, 4, 3, b"ab1"),
-        compared(Comparison::GreaterEqual, 3, 4, b"ab0"),
-        pointed(Operation::Advance { size: 4 }, 4096, 3, b"ab4108"),
-        pointed(Operation::AdvanceBy { size: 4 }, 3, 4096, b"ab4108"),
-        pointed(Operation::Retreat { size: 4 }, 4108, 3, b"ab4096"),
-        pointed(Operation::Distance { size: 4 }, 4108, 4096, b"ab3"),
-    ] {
-        let left = Node::Number(operator.left);
-        let right = Node::Number(operator.right);
-        let nodes = [left, SAY_A, right, SAY_B, Node::Two(Two::Do(operator.op))];
-        assert_eq!(rt; shown(alloc, &nodes)?.as_slice(), operator.shows);
+fn control_goes_where_statements_send_it(rt: HostRuntime) -> Result<(), Fail> {
+    for (stmts, prints) in STATEMENTS {
+        let parts = [FRONT, stmts, "\n}"];
+        comes(&rt, rt.alloc(), &parts, 100, ENDED, prints.as_bytes())?;
     }
     Ok(())
 }

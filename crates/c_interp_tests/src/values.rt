@@ -49,8 +49,8 @@ const ORDERS: [(&str, &str); 16] = [
     ("-say(1)+!say(2)", "12-1"),
 ];
 
-/// Expressions and their values.
-const VALUES: [(&str, &str); 62] = [
+/// Conversions and arithmetic.
+const NUMBERS: [(&str, &str); 37] = [
     ("(char)256", "0"),
     ("(char)-1", "255"),
     ("(int)2147483648", "-2147483648"),
@@ -88,6 +88,10 @@ const VALUES: [(&str, &str); 62] = [
     ("'a'+1", "98"),
     ("-1&255", "255"),
     ("1|6^3", "5"),
+];
+
+/// Calls, globals, pointers, and the input.
+const OBJECTS: [(&str, &str); 25] = [
     ("low(300)", "44"),
     ("cut(300)", "44"),
     ("ends()", "0"),
@@ -156,8 +160,17 @@ fn operands_are_evaluated_from_left_to_right(rt: HostRuntime) -> Result<(), Fail
 }
 
 #[test]
-fn expressions_have_their_values(rt: HostRuntime) -> Result<(), Fail> {
-    for (expression, prints) in VALUES {
+fn numbers_have_their_values(rt: HostRuntime) -> Result<(), Fail> {
+    for (expression, prints) in NUMBERS {
+        let parts = [FRONT, "putint(", expression, ");\n}"];
+        comes(&rt, rt.alloc(), &parts, 100, ENDED, prints.as_bytes())?;
+    }
+    Ok(())
+}
+
+#[test]
+fn objects_have_their_values(rt: HostRuntime) -> Result<(), Fail> {
+    for (expression, prints) in OBJECTS {
         let parts = [FRONT, "putint(", expression, ");\n}"];
         comes(&rt, rt.alloc(), &parts, 100, ENDED, prints.as_bytes())?;
     }

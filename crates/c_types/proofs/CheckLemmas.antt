@@ -8,7 +8,7 @@ use Rattle.c_functions.specs.Functions.{functions_known, lacks_main, with_body}
 use Rattle.c_operators.specs.declared.rule.Breach.{Breach}
 use Rattle.c_operators.specs.Rules.{Judged, Fine, Broken, breaches, first_from, first_breach, goes_before}
 use Rattle.c_operators.specs.Scopes as scopes
-use Rattle.c_operators.specs.Scopes.{Scope, inner}
+use Rattle.c_operators.specs.Scopes.{Scope}
 use Rattle.c_operators.specs.Parts.{also}
 use Rattle.c_operators.specs.Judging.{Noted, noted, kept}
 use Rattle.c_operators.proofs.JudgingLemmas.{first_from-join}
@@ -16,11 +16,13 @@ use Rattle.c_program.specs.declared.error.CheckErr.{CheckErr}
 use Rattle.c_program.specs.declared.error.CheckErr.TheVariants.{NoMemory}
 use Rattle.c_program.specs.Limits.{Limited, within, limited, program_of, Refuses}
 use Rattle.c_stmt_types.specs.Keeping.{Seen, Types, Finds, is_empty}
+use Rattle.c_stmt_types.specs.Statements.{At}
 use Rattle.c_types.specs.Making.{with_items}
 use Rattle.c_types.specs.Units.{Parts, judged, items, whole_breaches, file_start, past_items}
-use Rattle.c_types.specs.Typing.{Verdict, verdict, verdict_of, keeps_rules, breaks_rule, IsTyped, IsBreach, Refused}
+use Rattle.c_types.specs.Typing.{verdict, verdict_of, keeps_rules, IsTyped, IsBreach, Refused}
 use Rattle.c_types.specs.Views.{Tells}
 use Rattle.c_types.proofs.HeadLemmas.{seen_with}
+use Rattle.c_types.proofs.Settled.{HasOne, Settled, settled}
 
 -- ---- whether something was noted
 
@@ -100,12 +102,30 @@ kept-none : {A : Type 0} (j : Judged A) → None ≡ kept j → Broken (breaches
 kept-none (Fine b) e = let no : false ≡ true = cc in cc
 kept-none (Broken found) e = refl
 
-pub no_memory : (said : Verdict) → Refused said NoMemory
-no_memory (keeps_rules said) = tt
-no_memory (breaks_rule None) = tt
-no_memory (breaks_rule (Some breach)) = tt
+named : (found : List Breach) → HasOne found → is_some (first_breach found) ≡ true
+named [] h = absurd h
+named (x ∷ xs) h = stays x xs
 
--- without an answer, by the breach that is noted
+wants_memory : (first : Option Breach) → is_some first ≡ true → IsBreach first NoMemory
+wants_memory None e = let no : false ≡ true = e in cc
+wants_memory (Some breach) e = tt
+
+refused_memory : (at : At) (j : Judged Parts) → Settled j → Refused (verdict_of j at) NoMemory
+refused_memory at (Fine parts) h = tt
+refused_memory at (Broken found) h = wants_memory (first_breach found) (named found h)
+
+-- whatever the source
+pub no_memory : (unit : List c.Top) → Refused (verdict unit) NoMemory
+no_memory unit = refused_memory (past_items unit file_start) (judged unit) (settled unit)
+
+-- without an answer there is a breach, which is noted
+has_breach : (j : Judged Parts) → Settled j → None ≡ kept j → is_some (first_breach (breaches j)) ≡ true
+has_breach (Fine parts) h e = let no : false ≡ true = cc in cc
+has_breach (Broken found) h e = named found h
+
+pub noted_breach : {notes : Noted} (unit : List c.Top) → Tells unit None notes → is_some notes.first ≡ true
+noted_breach unit h = ap is_some h.first ∙ has_breach (judged unit) (settled unit) h.means
+
 pub refused_broken : {notes : Noted} (error : CheckErr) (unit : List c.Top) → Tells unit None notes → IsBreach notes.first error → Refused (verdict unit) error
 refused_broken {notes} error unit h is =
     subst (λ j. Refused (verdict_of j (past_items unit file_start)) error) (kept-none (judged unit) h.means)

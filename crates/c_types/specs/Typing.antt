@@ -29,10 +29,10 @@ verdict_of (Fine parts) behind = keeps_rules (limited parts.functions parts.glob
 abbrev pub verdict : List c.Top → Verdict
 verdict unit = verdict_of (judged unit) (past_items unit file_start)
 
--- the answer's rule and place are those of a breach
+-- There is a breach, and the answer's rule and place are its own, or memory was wanting.
 abbrev pub IsBreach : Option Breach → CheckErr → Type 0
 IsBreach (Some breach) (Rule rule place) = (rule ≡ number_of breach.rule) × (place ≡ breach.place)
-IsBreach found NoMemory = ⊤
+IsBreach (Some breach) NoMemory = ⊤
 IsBreach found error = ⊥
 
 -- why a source has no program

@@ -1,6 +1,6 @@
 //! The program of a source's tree, or why it has none.
 
-ghost use Rattle.std.specs.Prelude.{◌≡◌, [], None, not, is_some, IfOk, IfErr, OnOk, if◌then◌else◌};
+ghost use Rattle.std.specs.Prelude.{◌≡◌, [], None, Some, not, is_some, IfOk, IfErr, OnOk, if◌then◌else◌};
 ghost use Rattle.std.specs.Option.{option_map};
 ghost use Rattle.c_ast.specs.TreeViews.{unit_of};
 ghost use Rattle.c_functions.specs.Functions.{all_declared, functions_known, lacks_main, redeclared_after, with_body};
@@ -82,22 +82,17 @@ fn judge<'a>(
     Ok(answer)
 }
 
-fn refusal(first: Option<Breach>) -> CheckErr
-    ensures { IsBreach first result }
+fn refusal(breach: Breach) -> CheckErr
+    ensures { IsBreach (Some breach) result }
 {
-    match first {
-        Some(breach) => {
-            CheckErr::Rule {
-                rule: breach.rule.number(),
-                place: breach.place,
-            }
-        }
-        None => CheckErr::NoMemory,
+    CheckErr::Rule {
+        rule: breach.rule.number(),
+        place: breach.place,
     }
 }
 
 /// The program of what was made of a file, or the breach that was noted.
-#[tactic(auto, using(crate::proofs::CheckLemmas::refused_broken, crate::proofs::CheckLemmas::no_memory, crate::proofs::CheckLemmas::laid_out, crate::proofs::CheckLemmas::typed, crate::proofs::CheckLemmas::refused_large))]
+#[tactic(auto, using(crate::proofs::CheckLemmas::refused_broken, crate::proofs::CheckLemmas::no_memory, crate::proofs::CheckLemmas::noted_breach, crate::proofs::CheckLemmas::laid_out, crate::proofs::CheckLemmas::typed, crate::proofs::CheckLemmas::refused_large))]
 fn settle(
     alloc: Global,
     unit: &Unit,
@@ -111,7 +106,7 @@ fn settle(
     ensures refused { IfErr result (Refused (verdict (unit_of unit.now))) }
 {
     let Some(made) = made else {
-        return Err(refusal(notes.first()));
+        return Err(refusal(notes.first().unwrap()));
     };
     let nodes = node_count(unit)?;
     let (texts, places) = notes.into_parts();

@@ -1,4 +1,10 @@
-pub mod Alike
-pub mod Level
-pub mod Steady
-mod Worked
+pub mod Advances
+pub mod Asking
+pub mod Extends
+pub mod Keeping
+pub mod Lightening
+pub mod Mains
+pub mod Rows
+pub mod Runs
+pub mod Settling
+pub mod Spending

@@ -1,2 +1,8 @@
-pub mod Doing
-pub mod Meaning
+pub mod Machines
+pub mod Moves
+pub mod Outcomes
+pub mod Pending
+pub mod Programs
+pub mod Running
+pub mod Views
+pub mod Weights

@@ -1,9 +1,9 @@
 -- What an outermost expression is for.
 use Rattle.std.proofs.Common.{◌≡◌, refl}
-use Rattle.parse_states.specs.declared.frames.Goal.{Goal}
-use Rattle.parse_states.specs.declared.frames.Goal.TheVariants as goal
-use Rattle.parse_machine.specs.Machine as M
-use Rattle.parse_states.specs.Views.{goal_of}
+use Rattle.c_parse_states.specs.declared.frames.Goal.{Goal}
+use Rattle.c_parse_states.specs.declared.frames.Goal.TheVariants as goal
+use Rattle.c_parse_machine.specs.Machine as M
+use Rattle.c_parse_states.specs.Views.{goal_of}
 
 pub shut_goal : (goal : Goal) → goal_of goal ≡ M.shut (goal_of goal)
 shut_goal (goal.Part role) = refl

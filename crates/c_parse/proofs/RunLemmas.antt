@@ -9,15 +9,15 @@ use Rattle.c_ast.specs.Grammar.{IsUnit}
 use Rattle.c_ast.specs.Nesting as N
 use Rattle.c_parse.specs.declared.parser.ParseErr.{ParseErr}
 use Rattle.c_parse.specs.declared.parser.ParseErr.TheVariants.{TooDeep, Syntax, NoMemory}
-use Rattle.parse_machine.specs.Machine as M
+use Rattle.c_parse_machine.specs.Machine as M
 use Rattle.c_parse.specs.Parses.{Refuses}
 use Rattle.c_parse.specs.Ran.{Ran}
-use Rattle.parse_machine.proofs.Complete.{takes}
-use Rattle.parse_machine.proofs.Viable.{refuses}
-use Rattle.parse_machine.proofs.SoundStates.{sound}
-use Rattle.parse_machine.proofs.Answered as A
-use Rattle.parse_machine.proofs.Answered.{wrong_at}
-use Rattle.parse_machine.specs.Told.{HaveOneTree}
+use Rattle.c_parse_machine.proofs.Complete.{takes}
+use Rattle.c_parse_machine.proofs.Viable.{refuses}
+use Rattle.c_parse_machine.proofs.SoundStates.{sound}
+use Rattle.c_parse_machine.proofs.Answered as A
+use Rattle.c_parse_machine.proofs.Answered.{wrong_at}
+use Rattle.c_parse_machine.specs.Told.{HaveOneTree}
 
 one_token : (ts : List Token) (i : ℕ) (tok : Token) (s : M.State) → i < length ts → tok ≡ get_or ts i tok →
     M.run (drop i ts) s ≡ M.run (tok ∷ drop (i + 1) ts) s

@@ -6,7 +6,7 @@ use Rattle.c_ast.specs.Trees.{Top}
 use Rattle.c_ast.specs.TreeViews.{unit_of}
 use Rattle.c_parse.specs.declared.parser.ParseErr.{ParseErr}
 use Rattle.c_parse.specs.declared.parser.ParseErr.TheVariants.{TooDeep, Syntax, NoMemory}
-use Rattle.parse_machine.specs.Machine as M
+use Rattle.c_parse_machine.specs.Machine as M
 
 abbrev pub IsFinished : Option code.Unit → Option (List Top) → Type 0
 IsFinished None r = r ≡ None

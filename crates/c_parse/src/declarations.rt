@@ -3,8 +3,8 @@
 ghost use Rattle.std.specs.Prelude.{◌≡◌, ◌++◌, ◌∷◌, [], IfOk, map};
 ghost use Rattle.c_ast.specs.Trees.{declarator, param, no_init};
 ghost use Rattle.c_ast.specs.TreeViews.{type_of, expr_of, init_of, decl_of, param_of, param_name_of, item_of};
-ghost use Rattle.parse_machine.specs.Machine as M;
-ghost use Rattle.parse_states.specs.Views.{head_of, target_of, declaring_of, made_of, use_of, sizing_of, frames_of, state_of, IsNext};
+ghost use Rattle.c_parse_machine.specs.Machine as M;
+ghost use Rattle.c_parse_states.specs.Views.{head_of, target_of, declaring_of, made_of, use_of, sizing_of, frames_of, state_of, IsNext};
 
 use crate::expressions::{begin, begins_assign};
 use crate::statements::with_local;
@@ -12,13 +12,13 @@ use c_ast::{
     Base, CType, Declarator, Expr, ForStart, FunctionHead, Init, Item, Keyword, Length, Mark,
     Param, ParamName, Stmt, Tok, Token,
 };
-use ib_base::{Place, Text};
-use parse_states::frames::{
+use c_parse_states::frames::{
     Declaring, Frame, Frames, Goal, Head, Inside, Made, Role, Sizing, State, Target, Use,
 };
-use parse_states::nodes;
-use parse_states::signs::{is, says};
-use parse_states::stacks::{outermost, under};
+use c_parse_states::nodes;
+use c_parse_states::signs::{is, says};
+use c_parse_states::stacks::{outermost, under};
+use ib_base::{Place, Text};
 use std::alloc::{AllocError, Global};
 
 /// `char`, `int` or `long`.

@@ -3,19 +3,19 @@
 ghost use Rattle.std.specs.Prelude.{◌≡◌, ◌++◌, ◌∷◌, [], IfOk, map};
 ghost use Rattle.c_ast.specs.Trees.{name, call, exps};
 ghost use Rattle.c_ast.specs.TreeViews.{type_of, expr_of};
-ghost use Rattle.parse_machine.specs.Machine as M;
-ghost use Rattle.parse_states.specs.Views.{made_of, goal_of, frame_of, frames_of, declaring_of, IsNext, IsTurn};
+ghost use Rattle.c_parse_machine.specs.Machine as M;
+ghost use Rattle.c_parse_states.specs.Views.{made_of, goal_of, frame_of, frames_of, declaring_of, IsNext, IsTurn};
 
 use crate::declarations::{begin_type, step_declared, with_init};
 use crate::statements::{end_part, end_test};
 use c_ast::{AssignOp, BinaryOp, Expr, Init, Keyword, Mark, Tok, Token};
-use ib_base::{Place, Text};
-use parse_states::frames::{Frame, Frames, Goal, Inner, Made, State, Turn, Use};
-use parse_states::nodes;
-use parse_states::signs::{
+use c_parse_states::frames::{Frame, Frames, Goal, Inner, Made, State, Turn, Use};
+use c_parse_states::nodes;
+use c_parse_states::signs::{
     assign_op, binary_op, is, is_type, level, postfix_op, prefix_op, step_op,
 };
-use parse_states::stacks::{alone, inner, pushed, under};
+use c_parse_states::stacks::{alone, inner, pushed, under};
+use ib_base::{Place, Text};
 use std::alloc::{AllocError, Global};
 
 pub fn begins_assign(frames: Frames) -> Result<Frames, AllocError>

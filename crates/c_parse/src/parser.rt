@@ -4,10 +4,10 @@ ghost use Rattle.std.specs.Prelude.{◌≡◌, IfOk, IfErr, None};
 ghost use Rattle.c_ast.specs.TreeViews.{type_of, stmt_of, unit_of};
 ghost use Rattle.c_ast.specs.Grammar.{IsUnit};
 ghost use Rattle.c_ast.specs.Nesting as N;
-ghost use Rattle.parse_machine.specs.Machine as M;
-ghost use Rattle.parse_states.specs.Views.{state_of, head_of, outer_of, sizing_of, IsNext};
+ghost use Rattle.c_parse_machine.specs.Machine as M;
+ghost use Rattle.c_parse_states.specs.Views.{state_of, head_of, outer_of, sizing_of, IsNext};
 ghost use Rattle.c_parse.specs.Parses.{Refuses};
-ghost use Rattle.parse_machine.specs.Told.{HaveOneTree};
+ghost use Rattle.c_parse_machine.specs.Told.{HaveOneTree};
 ghost use Rattle.c_parse.specs.Ran.{Ran, IsFinished};
 
 use crate::declarations::{
@@ -18,9 +18,9 @@ use crate::expressions::{begin, go_on, step_called, step_opened, step_paren};
 use crate::statements::{begin_stmt, settle, step_awaits, step_for_start, step_inside, step_test};
 use c_ast::{Item, Length, Mark, Stmt, Token, Unit};
 use c_nesting::too_deep;
+use c_parse_states::frames::{Head, Outer, Sizing, State, Use};
+use c_parse_states::signs::is;
 use ib_base::Place;
-use parse_states::frames::{Head, Outer, Sizing, State, Use};
-use parse_states::signs::is;
 use std::alloc::{AllocError, Global};
 
 /// Why tokens are not parsed.

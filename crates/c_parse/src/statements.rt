@@ -3,19 +3,19 @@
 ghost use Rattle.std.specs.Prelude.{◌≡◌, ◌++◌, ◌∷◌, [], IfOk, map, Some};
 ghost use Rattle.c_ast.specs.Trees.{local};
 ghost use Rattle.c_ast.specs.TreeViews.{expr_of, stmt_of, part_of, decl_of, start_of};
-ghost use Rattle.parse_machine.specs.Machine as M;
-ghost use Rattle.parse_states.specs.Views.{arm_of, outer_of, inside_of, role_of, test_of, head_of, state_of, IsNext, IsTurn, IsSettling};
+ghost use Rattle.c_parse_machine.specs.Machine as M;
+ghost use Rattle.c_parse_states.specs.Views.{arm_of, outer_of, inside_of, role_of, test_of, head_of, state_of, IsNext, IsTurn, IsSettling};
 
 use crate::declarations::{begin_type, declares};
 use crate::expressions::{begin_expr, begins_expr};
 use c_ast::{Declarator, Expr, ForStart, Item, Keyword, Mark, Part, Stmt, Tok, Token};
-use ib_base::Place;
-use parse_states::frames::{
+use c_parse_states::frames::{
     Arm, Goal, Head, Innermost, Inside, Outer, Role, Settling, State, Target, Test, Turn,
 };
-use parse_states::nodes;
-use parse_states::signs::{is, is_type, says};
-use parse_states::stacks::{innermost, outermost, within};
+use c_parse_states::nodes;
+use c_parse_states::signs::{is, is_type, says};
+use c_parse_states::stacks::{innermost, outermost, within};
+use ib_base::Place;
 use std::alloc::{AllocError, Global};
 
 /// The block with one more statement.

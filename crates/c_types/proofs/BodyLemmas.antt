@@ -6,19 +6,19 @@ use Rattle.c_typed.specs.declared.types.ValueType.{ValueType}
 use Rattle.c_typed.specs.declared.program.Home.{Home}
 use Rattle.c_typed.specs.declared.program.Param.{Param}
 use Rattle.c_typed.specs.Tree as t
-use Rattle.scopes.specs.Scopes as s
-use Rattle.scopes.specs.Scopes.{declared}
-use Rattle.c_homes.specs.Addressed.{variables}
-use Rattle.c_homes.specs.Homes.{function_homes, function_given, frame_size}
-use Rattle.c_operators.specs.declared.rule.Rule.TheVariants.{WrongSignature}
-use Rattle.c_operators.specs.declared.scope.Variable.{Variable}
-use Rattle.c_operators.specs.Rules.{Fine}
-use Rattle.c_operators.specs.Scopes.{Scope, inner, outer, with_variable}
-use Rattle.c_operators.specs.Parts.{broken_if, ◌<*>◌}
-use Rattle.c_functions.specs.Functions.{Head, has_unnamed, head_breaches}
-use Rattle.c_stmt_types.specs.Statements.{At, statements, with_local, with_locals, with_names}
-use Rattle.c_stmt_types.specs.Keeping.{Seen, Types, Finds, ◌<?>◌, past_all, with_names_of}
-use Rattle.c_stmt_types.proofs.Typed.{makes, with_part, also_typed}
+use Rattle.c_scopes.specs.Scopes as s
+use Rattle.c_scopes.specs.Scopes.{declared}
+use Rattle.c_types_homes.specs.Addressed.{variables}
+use Rattle.c_types_homes.specs.Homes.{function_homes, function_given, frame_size}
+use Rattle.c_types_operators.specs.declared.rule.Rule.TheVariants.{WrongSignature}
+use Rattle.c_types_operators.specs.declared.scope.Variable.{Variable}
+use Rattle.c_types_operators.specs.Rules.{Fine}
+use Rattle.c_types_operators.specs.Scopes.{Scope, inner, outer, with_variable}
+use Rattle.c_types_operators.specs.Parts.{broken_if, ◌<*>◌}
+use Rattle.c_types_functions.specs.Functions.{Head, has_unnamed, head_breaches}
+use Rattle.c_types_statements.specs.Statements.{At, statements, with_local, with_locals, with_names}
+use Rattle.c_types_statements.specs.Keeping.{Seen, Types, Finds, ◌<?>◌, past_all, with_names_of}
+use Rattle.c_types_statements.proofs.Typed.{makes, with_part, also_typed}
 use Rattle.c_types.specs.Making.{and_param, and_params, param_at, body_in, past_body, function_with}
 use Rattle.c_types.specs.Units.{with_param, with_params, params_typed, body, a_function, function}
 

@@ -2,21 +2,21 @@
 use Rattle.std.proofs.Common.{◌≡◌, refl, ap, ap₂, sym, ◌∙◌, subst, ℕ, Bool, true, false, not, cond, List, [], ◌∷◌, ◌++◌, Option, Some, None, is_some}
 use Rattle.std.proofs.lemmas.List.{append-nil}
 use Rattle.c_ast.specs.Trees as c
-use Rattle.scopes.specs.Scopes as s
+use Rattle.c_scopes.specs.Scopes as s
 use Rattle.c_typed.specs.Program.{Program}
-use Rattle.c_functions.specs.Functions.{functions_known, lacks_main, with_body}
-use Rattle.c_operators.specs.declared.rule.Breach.{Breach}
-use Rattle.c_operators.specs.Rules.{Judged, Fine, Broken, breaches, first_from, first_breach, goes_before}
-use Rattle.c_operators.specs.Scopes as scopes
-use Rattle.c_operators.specs.Scopes.{Scope}
-use Rattle.c_operators.specs.Parts.{also}
-use Rattle.c_operators.specs.Judging.{Noted, noted, kept}
-use Rattle.c_operators.proofs.JudgingLemmas.{first_from-join}
+use Rattle.c_types_functions.specs.Functions.{functions_known, lacks_main, with_body}
+use Rattle.c_types_operators.specs.declared.rule.Breach.{Breach}
+use Rattle.c_types_operators.specs.Rules.{Judged, Fine, Broken, breaches, first_from, first_breach, goes_before}
+use Rattle.c_types_operators.specs.Scopes as scopes
+use Rattle.c_types_operators.specs.Scopes.{Scope}
+use Rattle.c_types_operators.specs.Parts.{also}
+use Rattle.c_types_operators.specs.Judging.{Noted, noted, kept}
+use Rattle.c_types_operators.proofs.JudgingLemmas.{first_from-join}
 use Rattle.c_program.specs.declared.error.CheckErr.{CheckErr}
 use Rattle.c_program.specs.declared.error.CheckErr.TheVariants.{NoMemory}
 use Rattle.c_program.specs.Limits.{Limited, within, limited, program_of, Refuses}
-use Rattle.c_stmt_types.specs.Keeping.{Seen, Types, Finds, is_empty}
-use Rattle.c_stmt_types.specs.Statements.{At}
+use Rattle.c_types_statements.specs.Keeping.{Seen, Types, Finds, is_empty}
+use Rattle.c_types_statements.specs.Statements.{At}
 use Rattle.c_types.specs.Making.{with_items}
 use Rattle.c_types.specs.Units.{Parts, judged, items, whole_breaches, file_start, past_items}
 use Rattle.c_types.specs.Typing.{verdict, verdict_of, keeps_rules, IsTyped, IsBreach, Refused}

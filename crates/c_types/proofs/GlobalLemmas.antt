@@ -9,19 +9,19 @@ use Rattle.c_layout.specs.declared.shape.Shape.{Shape}
 use Rattle.c_layout.specs.declared.data.Datum.{Datum}
 use Rattle.c_layout.specs.declared.data.GlobalData.{GlobalData}
 use Rattle.c_layout.specs.Layout.{Texts}
-use Rattle.c_homes.specs.Declarators.{declared_name, declared_place, declared_shape, init_of}
-use Rattle.c_operators.specs.declared.rule.Rule.TheVariants.{BadType}
-use Rattle.c_operators.specs.declared.rule.Breach.{Breach}
-use Rattle.c_operators.specs.declared.scope.Variable.{Variable}
-use Rattle.c_operators.specs.declared.scope.Lives.TheVariants.{InMemory}
-use Rattle.c_operators.specs.Rules.{Fine, first_from}
-use Rattle.c_operators.specs.Scopes.{Scope, with_variable}
-use Rattle.c_operators.specs.Parts.{broken_if, ◌<*>◌, also}
-use Rattle.c_declarators.specs.Declarations.{is_bad_declarator}
-use Rattle.c_initial.specs.Constants.{shape_data, laid_out}
-use Rattle.c_stmt_types.specs.Statements.{At, past_texts}
-use Rattle.c_stmt_types.specs.Keeping.{Seen, Types, Finds, counted, ◌<?>◌}
-use Rattle.c_stmt_types.proofs.Typed.{makes, with_part, also_typed, after, Leads, leads_all, leads_on, leads_end}
+use Rattle.c_types_homes.specs.Declarators.{declared_name, declared_place, declared_shape, init_of}
+use Rattle.c_types_operators.specs.declared.rule.Rule.TheVariants.{BadType}
+use Rattle.c_types_operators.specs.declared.rule.Breach.{Breach}
+use Rattle.c_types_operators.specs.declared.scope.Variable.{Variable}
+use Rattle.c_types_operators.specs.declared.scope.Lives.TheVariants.{InMemory}
+use Rattle.c_types_operators.specs.Rules.{Fine, first_from}
+use Rattle.c_types_operators.specs.Scopes.{Scope, with_variable}
+use Rattle.c_types_operators.specs.Parts.{broken_if, ◌<*>◌, also}
+use Rattle.c_types_declarators.specs.Declarations.{is_bad_declarator}
+use Rattle.c_types_initial.specs.Constants.{shape_data, laid_out}
+use Rattle.c_types_statements.specs.Statements.{At, past_texts}
+use Rattle.c_types_statements.specs.Keeping.{Seen, Types, Finds, counted, ◌<?>◌}
+use Rattle.c_types_statements.proofs.Typed.{makes, with_part, also_typed, after, Leads, leads_all, leads_on, leads_end}
 use Rattle.c_types.specs.Making.{and_global, past_global, past_globals}
 use Rattle.c_types.specs.Units.{a_global, with_global, with_globals, global_texts, globals_texts, global, globals}
 

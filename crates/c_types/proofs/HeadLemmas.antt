@@ -1,13 +1,13 @@
 -- What the judgement of a head notes, as a walk has seen it.
 use Rattle.std.proofs.Common.{◌≡◌, refl, ap, sym, ◌∙◌, subst, ℕ, Bool, ◌&&◌, List, [], ◌∷◌, ◌++◌}
 use Rattle.std.proofs.lemmas.List.{append-nil}
-use Rattle.c_operators.specs.declared.rule.Breach.{Breach}
-use Rattle.c_operators.specs.Rules.{first_from}
-use Rattle.c_operators.specs.Scopes.{Scope}
-use Rattle.c_operators.specs.Judging.{Noted, noted}
-use Rattle.c_functions.specs.Finding as heads
-use Rattle.c_stmt_types.specs.Keeping.{Seen, Finds, is_empty}
-use Rattle.c_stmt_types.proofs.Typed.{finds_both}
+use Rattle.c_types_operators.specs.declared.rule.Breach.{Breach}
+use Rattle.c_types_operators.specs.Rules.{first_from}
+use Rattle.c_types_operators.specs.Scopes.{Scope}
+use Rattle.c_types_operators.specs.Judging.{Noted, noted}
+use Rattle.c_types_functions.specs.Finding as heads
+use Rattle.c_types_statements.specs.Keeping.{Seen, Finds, is_empty}
+use Rattle.c_types_statements.proofs.Typed.{finds_both}
 
 -- with these names, behind so many variables
 abbrev pub seen_with : Scope → ℕ → Noted → Seen

@@ -6,14 +6,14 @@ use Rattle.c_typed.specs.declared.program.Function.{Function}
 use Rattle.c_typed.specs.Tree as t
 use Rattle.c_typed.specs.Views.{function_of}
 use Rattle.c_layout.specs.declared.data.GlobalData.{GlobalData}
-use Rattle.scopes.specs.Scopes as s
-use Rattle.c_operators.specs.declared.rule.Rule.TheVariants.{WrongSignature}
-use Rattle.c_operators.specs.Rules.{Fine}
-use Rattle.c_operators.specs.Scopes as scopes
-use Rattle.c_operators.specs.Parts.{broken_if}
-use Rattle.c_functions.specs.Functions.{Head, head_breaches, is_good_prototype}
-use Rattle.c_stmt_types.specs.Keeping.{Seen, Types, Finds, ◌<?>◌}
-use Rattle.c_stmt_types.proofs.Typed.{makes, also_typed, Leads, leads_all, leads_on, leads_end}
+use Rattle.c_scopes.specs.Scopes as s
+use Rattle.c_types_operators.specs.declared.rule.Rule.TheVariants.{WrongSignature}
+use Rattle.c_types_operators.specs.Rules.{Fine}
+use Rattle.c_types_operators.specs.Scopes as scopes
+use Rattle.c_types_operators.specs.Parts.{broken_if}
+use Rattle.c_types_functions.specs.Functions.{Head, head_breaches, is_good_prototype}
+use Rattle.c_types_statements.specs.Keeping.{Seen, Types, Finds, ◌<?>◌}
+use Rattle.c_types_statements.proofs.Typed.{makes, also_typed, Leads, leads_all, leads_on, leads_end}
 use Rattle.c_types.specs.Making.{with_items}
 use Rattle.c_types.specs.Units.{Parts, no_parts, one_function, only_globals, joined, with_item, past_item, past_items, prototype, item, items}
 

@@ -16,23 +16,23 @@ use Rattle.c_typed.specs.Choices.{chosen, branches, fits}
 use Rattle.c_typed.specs.ValueTypes.{is_integer, is_pointer, leads, written}
 use Rattle.c_typed.specs.Tree as t
 use Rattle.c_typed.specs.Tree.{Exp, Exps}
-use Rattle.scopes.specs.Scopes as s
+use Rattle.c_scopes.specs.Scopes as s
 use Rattle.c_layout.specs.declared.shape.Shape.{Shape}
 use Rattle.c_layout.specs.declared.shape.Shape.TheVariants.{Scalar, Array}
 use Rattle.c_layout.specs.Layout.{Texts}
-use Rattle.c_operators.specs.declared.rule.Rule.{Rule}
-use Rattle.c_operators.specs.declared.rule.Breach.{Breach}
-use Rattle.c_operators.specs.Rules.{Judged, Fine, Broken, breaches, breaks, ◌>>=◌, both, or_breaks}
-use Rattle.c_operators.specs.Parts.{broken_if, ◌<*>◌, also}
-use Rattle.c_operators.specs.Scopes.{Scope, inner, Function, Meant, variable, function, found}
-use Rattle.c_operators.specs.Operators.{value_of, target_of, address_of, effect_value, used, called, tested, stored_as, integer_operand, binary_value, conditional_value, signed_value, unary_value, logical_value, is_logical, prefix_value, postfix_value, step_of, counted, within, restored, assignment, indexed_pointer, index_value, cast_value, comma_of, based_on, has_value, valued, placed, condition, passed, effect_of, prefix_of, of_value, unary_of, operand, plain_operand, type_of, target_type, anchor, is_void, argument_number, wanted, rest_of, Designated, Target, a_value, a_slot, a_cell, an_element, an_array, no_value}
-use Rattle.c_operators.specs.declared.rule.Rule.TheVariants.{WrongSignature, WrongOperands, ReturnValue, OutsideALoop, WrongInitialiser}
-use Rattle.c_homes.specs.Declarators.{declared_name, declared_place, declared_shape, init_of}
-use Rattle.c_declarators.specs.Declarations.{declarator_breaches}
-use Rattle.c_expr_types.specs.Expressions.{literals, designated, arguments, value, tested_value, stored_value, effects, effect}
-use Rattle.c_stmt_types.specs.Statements.{At, numbered, past, past_test, past_head, literals_init, literals_in, literals_start, literals_maybe, with_local, with_start, with_names, first_value, no_first_value, stored_first, test_part, effect_part, returned, redeclared_in, home_at, local, locals, start, statement, statements}
-use Rattle.c_initial.specs.Constants.{constant_at, is_constant, is_char, datum, data_of, array_value, array_data, shape_data}
-use Rattle.c_functions.specs.Functions.{Head, head_of, head_breaches, has_unnamed, is_good_prototype, lacks_main}
+use Rattle.c_types_operators.specs.declared.rule.Rule.{Rule}
+use Rattle.c_types_operators.specs.declared.rule.Breach.{Breach}
+use Rattle.c_types_operators.specs.Rules.{Judged, Fine, Broken, breaches, breaks, ◌>>=◌, both, or_breaks}
+use Rattle.c_types_operators.specs.Parts.{broken_if, ◌<*>◌, also}
+use Rattle.c_types_operators.specs.Scopes.{Scope, inner, Function, Meant, variable, function, found}
+use Rattle.c_types_operators.specs.Operators.{value_of, target_of, address_of, effect_value, used, called, tested, stored_as, integer_operand, binary_value, conditional_value, signed_value, unary_value, logical_value, is_logical, prefix_value, postfix_value, step_of, counted, within, restored, assignment, indexed_pointer, index_value, cast_value, comma_of, based_on, has_value, valued, placed, condition, passed, effect_of, prefix_of, of_value, unary_of, operand, plain_operand, type_of, target_type, anchor, is_void, argument_number, wanted, rest_of, Designated, Target, a_value, a_slot, a_cell, an_element, an_array, no_value}
+use Rattle.c_types_operators.specs.declared.rule.Rule.TheVariants.{WrongSignature, WrongOperands, ReturnValue, OutsideALoop, WrongInitialiser}
+use Rattle.c_types_homes.specs.Declarators.{declared_name, declared_place, declared_shape, init_of}
+use Rattle.c_types_declarators.specs.Declarations.{declarator_breaches}
+use Rattle.c_types_expressions.specs.Expressions.{literals, designated, arguments, value, tested_value, stored_value, effects, effect}
+use Rattle.c_types_statements.specs.Statements.{At, numbered, past, past_test, past_head, literals_init, literals_in, literals_start, literals_maybe, with_local, with_start, with_names, first_value, no_first_value, stored_first, test_part, effect_part, returned, redeclared_in, home_at, local, locals, start, statement, statements}
+use Rattle.c_types_initial.specs.Constants.{constant_at, is_constant, is_char, datum, data_of, array_value, array_data, shape_data}
+use Rattle.c_types_functions.specs.Functions.{Head, head_of, head_breaches, has_unnamed, is_good_prototype, lacks_main}
 use Rattle.c_types.specs.Units as units
 use Rattle.c_types.specs.Units.{no_parts, prototype, with_item, past_item, with_global, global_texts, global, globals, item, items, judged, whole_breaches}
 

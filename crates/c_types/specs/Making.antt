@@ -6,12 +6,12 @@ use Rattle.c_typed.specs.declared.program.Home.{Home}
 use Rattle.c_typed.specs.declared.program.Param.{Param}
 use Rattle.c_typed.specs.Tree as t
 use Rattle.c_layout.specs.declared.data.GlobalData.{GlobalData}
-use Rattle.c_homes.specs.Declarators.{param_type}
-use Rattle.c_operators.specs.Rules.{Judged}
-use Rattle.c_operators.specs.Scopes.{Scope, inner}
-use Rattle.c_functions.specs.Functions.{Head}
-use Rattle.c_stmt_types.specs.Statements.{At, past_texts, home_at, statements, places_of, literals_in_all}
-use Rattle.c_stmt_types.specs.Keeping.{Seen, counted}
+use Rattle.c_types_homes.specs.Declarators.{param_type}
+use Rattle.c_types_operators.specs.Rules.{Judged}
+use Rattle.c_types_operators.specs.Scopes.{Scope, inner}
+use Rattle.c_types_functions.specs.Functions.{Head}
+use Rattle.c_types_statements.specs.Statements.{At, past_texts, home_at, statements, places_of, literals_in_all}
+use Rattle.c_types_statements.specs.Keeping.{Seen, counted}
 use Rattle.c_types.specs.Units.{global_texts, globals_texts, with_param, with_params, params_typed, with_item, past_item}
 
 -- ---- globals

@@ -2,12 +2,12 @@
 use Rattle.std.specs.Prelude.{◌≡◌, List, Option, Some, ⊤}
 use Rattle.c_ast.specs.Trees as c
 use Rattle.c_typed.specs.Program.{Program}
-use Rattle.c_operators.specs.declared.rule.Breach.{Breach}
-use Rattle.c_operators.specs.Rules.{first_breach, number_of, Judged, Fine, Broken}
+use Rattle.c_types_operators.specs.declared.rule.Breach.{Breach}
+use Rattle.c_types_operators.specs.Rules.{first_breach, number_of, Judged, Fine, Broken}
 use Rattle.c_program.specs.declared.error.CheckErr.{CheckErr}
 use Rattle.c_program.specs.declared.error.CheckErr.TheVariants.{Rule, NoMemory}
 use Rattle.c_program.specs.Limits.{program_of, Limited, limited, Refuses}
-use Rattle.c_stmt_types.specs.Statements.{At}
+use Rattle.c_types_statements.specs.Statements.{At}
 use Rattle.c_types.specs.Units.{Parts, judged, file_start, past_items}
 
 -- the program of a source that breaks no rule

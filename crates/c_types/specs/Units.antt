@@ -5,24 +5,24 @@ use Rattle.c_typed.specs.declared.program.Param.{Param}
 use Rattle.c_typed.specs.declared.program.Home.{Home}
 use Rattle.c_typed.specs.declared.expr.Storage.TheVariants.{Global}
 use Rattle.c_typed.specs.Tree as t
-use Rattle.scopes.specs.Scopes as s
+use Rattle.c_scopes.specs.Scopes as s
 use Rattle.c_layout.specs.declared.shape.Shape.{Shape}
 use Rattle.c_layout.specs.declared.shape.Shape.TheVariants.{Scalar}
 use Rattle.c_layout.specs.declared.data.Datum.{Datum}
 use Rattle.c_layout.specs.declared.data.GlobalData.{GlobalData}
 use Rattle.c_layout.specs.Layout.{Texts}
-use Rattle.c_homes.specs.Declarators.{declared_name, declared_place, declared_shape, init_of, param_type}
-use Rattle.c_homes.specs.Homes.{function_homes, function_given, frame_size}
-use Rattle.c_operators.specs.declared.rule.Rule.TheVariants.{NoMain, WrongSignature}
-use Rattle.c_operators.specs.declared.rule.Breach.{Breach}
-use Rattle.c_operators.specs.declared.scope.Lives.TheVariants.{InMemory}
-use Rattle.c_operators.specs.Rules.{Judged, Fine}
-use Rattle.c_operators.specs.Scopes.{Scope, Function, inner, with_variable}
-use Rattle.c_operators.specs.Parts.{broken_if, ◌<*>◌, also}
-use Rattle.c_declarators.specs.Declarations.{declarator_breaches}
-use Rattle.c_stmt_types.specs.Statements.{At, home_at, lives, statements, places_of, literals_in_all}
-use Rattle.c_initial.specs.Constants.{shape_data, laid_out}
-use Rattle.c_functions.specs.Functions.{Head, head_of, head_breaches, has_unnamed, is_good_prototype, lacks_main, with_body, functions_known, redeclared_after, all_declared}
+use Rattle.c_types_homes.specs.Declarators.{declared_name, declared_place, declared_shape, init_of, param_type}
+use Rattle.c_types_homes.specs.Homes.{function_homes, function_given, frame_size}
+use Rattle.c_types_operators.specs.declared.rule.Rule.TheVariants.{NoMain, WrongSignature}
+use Rattle.c_types_operators.specs.declared.rule.Breach.{Breach}
+use Rattle.c_types_operators.specs.declared.scope.Lives.TheVariants.{InMemory}
+use Rattle.c_types_operators.specs.Rules.{Judged, Fine}
+use Rattle.c_types_operators.specs.Scopes.{Scope, Function, inner, with_variable}
+use Rattle.c_types_operators.specs.Parts.{broken_if, ◌<*>◌, also}
+use Rattle.c_types_declarators.specs.Declarations.{declarator_breaches}
+use Rattle.c_types_statements.specs.Statements.{At, home_at, lives, statements, places_of, literals_in_all}
+use Rattle.c_types_initial.specs.Constants.{shape_data, laid_out}
+use Rattle.c_types_functions.specs.Functions.{Head, head_of, head_breaches, has_unnamed, is_good_prototype, lacks_main, with_body, functions_known, redeclared_after, all_declared}
 
 -- ---- globals
 

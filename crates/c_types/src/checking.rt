@@ -3,14 +3,14 @@
 ghost use Rattle.std.specs.Prelude.{◌≡◌, [], None, Some, not, is_some, IfOk, IfErr, OnOk, if◌then◌else◌};
 ghost use Rattle.std.specs.Option.{option_map};
 ghost use Rattle.c_ast.specs.TreeViews.{unit_of};
-ghost use Rattle.c_functions.specs.Functions.{all_declared, functions_known, lacks_main, redeclared_after, with_body};
-ghost use Rattle.c_operators.specs.Parts.{also};
-ghost use Rattle.c_operators.specs.Rules.{first_from};
-ghost use Rattle.c_operators.specs.ScopeViews.{functions_of};
+ghost use Rattle.c_types_functions.specs.Functions.{all_declared, functions_known, lacks_main, redeclared_after, with_body};
+ghost use Rattle.c_types_operators.specs.Parts.{also};
+ghost use Rattle.c_types_operators.specs.Rules.{first_from};
+ghost use Rattle.c_types_operators.specs.ScopeViews.{functions_of};
 ghost use Rattle.c_program.specs.Checked.{program};
 ghost use Rattle.c_program.specs.Limits.{within};
 ghost use Rattle.c_program.specs.Nodes.{nodes_unit};
-ghost use Rattle.c_stmt_types.specs.Keeping.{Finds, Types};
+ghost use Rattle.c_types_statements.specs.Keeping.{Finds, Types};
 ghost use Rattle.c_types.specs.Making.{with_items};
 ghost use Rattle.c_types.specs.Typing.{IsBreach, IsTyped, Refused, keeps_rules, verdict};
 ghost use Rattle.c_types.specs.Units.{items, past_items, whole_breaches};
@@ -18,14 +18,14 @@ ghost use Rattle.c_types.specs.Views.{Tells, parts_of};
 
 use crate::items::{Made, items};
 use c_ast::Unit;
-use c_functions::{bodies, known, lacks_main, prototypes, redeclared, with_body};
-use c_operators::notes::Notes;
-use c_operators::rule::{Breach, Rule};
-use c_operators::scope::{Function, Scope};
 use c_program::{CheckErr, Program, node_count};
-use c_stmt_types::Walk;
+use c_scopes::Table;
+use c_types_functions::{bodies, known, lacks_main, prototypes, redeclared, with_body};
+use c_types_operators::notes::Notes;
+use c_types_operators::rule::{Breach, Rule};
+use c_types_operators::scope::{Function, Scope};
+use c_types_statements::Walk;
 use ib_base::Place;
-use scopes::Table;
 use std::alloc::{AllocError, Global};
 
 /// Where a file begins.

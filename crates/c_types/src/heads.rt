@@ -1,15 +1,15 @@
 //! The heads of a file's functions.
 
 ghost use Rattle.std.specs.Prelude.{◌++◌, IfOk};
-ghost use Rattle.c_operators.specs.declared.rule.Rule.TheVariants.{WrongSignature};
-ghost use Rattle.c_operators.specs.Parts.{broken_if};
-ghost use Rattle.c_functions.specs.Functions.{head_breaches};
-ghost use Rattle.c_functions.specs.Views.{plain_head};
-ghost use Rattle.c_stmt_types.specs.Keeping.{Finds};
+ghost use Rattle.c_types_operators.specs.declared.rule.Rule.TheVariants.{WrongSignature};
+ghost use Rattle.c_types_operators.specs.Parts.{broken_if};
+ghost use Rattle.c_types_functions.specs.Functions.{head_breaches};
+ghost use Rattle.c_types_functions.specs.Views.{plain_head};
+ghost use Rattle.c_types_statements.specs.Keeping.{Finds};
 
-use c_functions::Head;
-use c_operators::rule::Rule;
-use c_stmt_types::Walk;
+use c_types_functions::Head;
+use c_types_operators::rule::Rule;
+use c_types_statements::Walk;
 use ib_base::Place;
 use std::alloc::AllocError;
 

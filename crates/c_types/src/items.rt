@@ -4,9 +4,9 @@ ghost use Rattle.std.specs.Prelude.{◌≡◌, ◌++◌, map, Some, None, IfOk, 
 ghost use Rattle.std.specs.Option.{option_map};
 ghost use Rattle.c_ast.specs.TreeViews as source;
 ghost use Rattle.c_typed.specs.Views.{function_of};
-ghost use Rattle.c_operators.specs.ScopeViews.{functions_of};
-ghost use Rattle.c_functions.specs.Functions.{head_of};
-ghost use Rattle.c_stmt_types.specs.Keeping.{Types, ◌<?>◌};
+ghost use Rattle.c_types_operators.specs.ScopeViews.{functions_of};
+ghost use Rattle.c_types_functions.specs.Functions.{head_of};
+ghost use Rattle.c_types_statements.specs.Keeping.{Types, ◌<?>◌};
 ghost use Rattle.c_types.specs.Making.{with_items};
 ghost use Rattle.c_types.specs.Views.{parts_of, piece_of};
 ghost use Rattle.c_types.specs.Units.{no_parts, joined, one_function, only_globals, with_item, past_item, past_items, prototype, item, items};
@@ -15,13 +15,13 @@ use crate::functions::function;
 use crate::globals::globals;
 use crate::heads;
 use c_ast::{FunctionHead, Item};
-use c_functions::Head;
 use c_layout::GlobalData;
-use c_operators::calls::both;
-use c_operators::scope;
-use c_stmt_types::Walk;
+use c_scopes::Table;
 use c_typed::Function;
-use scopes::Table;
+use c_types_functions::Head;
+use c_types_operators::calls::both;
+use c_types_operators::scope;
+use c_types_statements::Walk;
 use std::alloc::AllocError;
 
 /// What an item means.

@@ -17,17 +17,17 @@ use Rattle.c_typed.specs.declared.operation.Operation.TheVariants as o
 use Rattle.c_typed.specs.declared.operation.Rank.TheVariants as r
 use Rattle.c_typed.specs.Tree as t
 use Rattle.c_typed.specs.ValueTypes.{int, long}
-use Rattle.scopes.specs.Scopes.{Named}
+use Rattle.c_scopes.specs.Scopes.{Named}
 use Rattle.c_layout.specs.declared.shape.Shape.{Shape}
 use Rattle.c_layout.specs.declared.shape.Shape.TheVariants.{Scalar, Array}
-use Rattle.c_operators.specs.declared.rule.Rule.TheVariants.{NotAssignable, WrongOperands}
-use Rattle.c_operators.specs.declared.scope.Callee.TheVariants.{Body}
-use Rattle.c_operators.specs.declared.scope.Lives.{Lives}
-use Rattle.c_operators.specs.declared.scope.Lives.TheVariants.{InSlot, InMemory}
-use Rattle.c_operators.specs.declared.scope.Variable.{Variable}
-use Rattle.c_operators.specs.Rules.{Fine, breaks}
-use Rattle.c_operators.specs.Scopes.{Scope}
-use Rattle.c_expr_types.specs.Expressions.{value, effect}
+use Rattle.c_types_operators.specs.declared.rule.Rule.TheVariants.{NotAssignable, WrongOperands}
+use Rattle.c_types_operators.specs.declared.scope.Callee.TheVariants.{Body}
+use Rattle.c_types_operators.specs.declared.scope.Lives.{Lives}
+use Rattle.c_types_operators.specs.declared.scope.Lives.TheVariants.{InSlot, InMemory}
+use Rattle.c_types_operators.specs.declared.scope.Variable.{Variable}
+use Rattle.c_types_operators.specs.Rules.{Fine, breaks}
+use Rattle.c_types_operators.specs.Scopes.{Scope}
+use Rattle.c_types_expressions.specs.Expressions.{value, effect}
 use Rattle.c_types_tests.proofs.Small.{at, name, number, text, call, unary, binary, set}
 
 -- ---- names

@@ -1,8 +1,8 @@
 use crate::answers::{in_main, judged};
 use c_ast::Base;
-use c_operators::nodes::type_of;
 use c_program::Program;
 use c_typed::{Expr, Operation, Stmt, ValueType};
+use c_types_operators::nodes::type_of;
 use std::alloc::{AllocError, Global};
 use std::test::Fail;
 

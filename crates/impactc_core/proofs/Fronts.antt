@@ -10,10 +10,10 @@ use Rattle.c_lex.proofs.Unique.{unique}
 use Rattle.c_lex.specs.declared.error.LexErr.{LexErr}
 use Rattle.c_lex.specs.declared.error.LexErr.TheVariants.{BadByte, OpenComment, BadLiteral, NoMemory as OutOfMemory}
 use Rattle.c_lex.specs.Lexed.{Refuses as RefusesBytes}
-use Rattle.c_operators.specs.declared.rule.Breach.{Breach}
-use Rattle.c_operators.specs.declared.rule.Rule.{Rule}
-use Rattle.c_operators.specs.declared.rule.Rule.TheVariants as rule
-use Rattle.c_operators.specs.Rules.{number_of}
+use Rattle.c_types_operators.specs.declared.rule.Breach.{Breach}
+use Rattle.c_types_operators.specs.declared.rule.Rule.{Rule}
+use Rattle.c_types_operators.specs.declared.rule.Rule.TheVariants as rule
+use Rattle.c_types_operators.specs.Rules.{number_of}
 use Rattle.c_parse.specs.declared.parser.ParseErr.{ParseErr}
 use Rattle.c_parse.specs.declared.parser.ParseErr.TheVariants.{TooDeep, Syntax as WrongAt, NoMemory as NoRoom}
 use Rattle.c_parse.specs.Parses.{Refuses as RefusesTokens}
@@ -22,7 +22,7 @@ use Rattle.c_program.specs.declared.error.CheckErr.TheVariants.{Rule as Broken, 
 use Rattle.c_program.specs.Limits.{within, large_globals, large_frame}
 use Rattle.c_typed.specs.Program.{Program}
 use Rattle.c_types.specs.Typing.{IsTyped, Refused, Verdict, verdict, keeps_rules, breaks_rule}
-use Rattle.parse_machine.proofs.Answered.{one_tree}
+use Rattle.c_parse_machine.proofs.Answered.{one_tree}
 use Rattle.impactc_core.specs.declared.core_err.Limit.{Limit}
 use Rattle.impactc_core.specs.declared.core_err.Limit.TheVariants.{Source as SourceBytes, Nesting, Globals, Frame}
 use Rattle.impactc_core.specs.declared.core_err.SourceFault.{SourceFault}

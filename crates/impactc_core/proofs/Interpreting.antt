@@ -9,7 +9,7 @@ use Rattle.ib_run.specs.OverHost.{OverHost}
 use Rattle.ib_run.specs.Report.{report_of}
 use Rattle.ib_run.proofs.OverHost.{over_weaken}
 use Rattle.c_typed.specs.Program.{Program}
-use Rattle.c_interp.specs.Running.{MeansSo, Begins}
+use Rattle.c_eval.specs.Running.{MeansSo, Begins}
 use Rattle.impactc_core.specs.declared.core_err.CoreErr.{CoreErr}
 use Rattle.impactc_core.specs.declared.front.SourceErr.{SourceErr}
 use Rattle.impactc_core.specs.declared.success.Success.{Success}

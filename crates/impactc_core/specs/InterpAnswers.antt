@@ -7,7 +7,7 @@ use Rattle.ib_base.specs.declared.outcome.Outcome.{Outcome}
 use Rattle.ib_base.specs.declared.outcome.Outcome.TheVariants.{Ended, Faulted, Spent}
 use Rattle.ib_run.specs.OverHost.{OverHost}
 use Rattle.c_typed.specs.Program.{Program}
-use Rattle.c_interp.specs.Running.{MeansSo, Begins}
+use Rattle.c_eval.specs.Running.{MeansSo, Begins}
 use Rattle.impactc_core.specs.declared.status.Status.{Status}
 use Rattle.impactc_core.specs.declared.status.Status.TheVariants.{Done, SourceRefused, TooLarge, ProgramFault, CyclesSpent}
 use Rattle.impactc_core.specs.declared.success.Success.TheVariants.{Interpreted}

@@ -9,7 +9,7 @@ use Rattle.c_ast.specs.Grammar.{IsUnit}
 use Rattle.c_ast.specs.Nesting.{too_deep}
 use Rattle.c_ast.specs.Trees.{Top}
 use Rattle.c_lex.specs.Lexed.{end_place}
-use Rattle.parse_machine.specs.Told.{IsWrongAt}
+use Rattle.c_parse_machine.specs.Told.{IsWrongAt}
 use Rattle.c_typed.specs.Program.{Program}
 use Rattle.c_program.specs.Limits.{within, large_globals, large_frame}
 use Rattle.c_types.specs.Typing.{IsTyped, Verdict, verdict, keeps_rules, breaks_rule}

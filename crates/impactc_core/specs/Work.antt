@@ -18,11 +18,11 @@ use Rattle.c_lex.specs.declared.error.LexErr.TheVariants.{BadByte, OpenComment, 
 use Rattle.c_parse.specs.declared.parser.ParseErr.{ParseErr}
 use Rattle.c_parse.specs.declared.parser.ParseErr.TheVariants.{TooDeep, Syntax as WrongAt, NoMemory as NoRoom}
 use Rattle.c_typed.specs.Program.{Program as Typed}
-use Rattle.c_operators.specs.declared.rule.Rule.{Rule}
-use Rattle.c_operators.specs.declared.rule.Rule.TheVariants as rule
+use Rattle.c_types_operators.specs.declared.rule.Rule.{Rule}
+use Rattle.c_types_operators.specs.declared.rule.Rule.TheVariants as rule
 use Rattle.c_program.specs.declared.error.CheckErr.{CheckErr}
 use Rattle.c_program.specs.declared.error.CheckErr.TheVariants.{Rule as Broken, Globals as LargeGlobals, Frame as LargeFrame, NoMemory as NoSpace}
-use Rattle.c_interp.specs.Running.{MeansSo}
+use Rattle.c_eval.specs.Running.{MeansSo}
 use Rattle.impactc_core.specs.declared.core_err.CoreErr.{CoreErr}
 use Rattle.impactc_core.specs.declared.core_err.CoreErr.TheVariants.{Source, HostFault as Host, NoMemory as Memory, TooLarge as Large}
 use Rattle.impactc_core.specs.declared.core_err.Limit.TheVariants.{Source as SourceBytes, Nesting, Globals, Frame}

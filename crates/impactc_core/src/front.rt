@@ -11,10 +11,10 @@ ghost use Rattle.impactc_core.specs.Work.{Refuses, lexical_refusal, phrase_refus
 use crate::{CoreErr, FileName, Limit, SourceFault};
 use c_ast::{LexFault, Token, Unit};
 use c_lex::{LexErr, end_place, lex};
-use c_operators::rule::Rule;
 use c_parse::{ParseErr, parse};
 use c_program::{CheckErr, Program};
 use c_types::check;
+use c_types_operators::rule::Rule;
 use ib_base::Place;
 use sqlite_items::{Items, at};
 use std::alloc::Global;

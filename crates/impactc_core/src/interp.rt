@@ -2,7 +2,7 @@ ghost use Rattle.std.specs.Prelude.{◌≡◌, ◌≤◌, length, IfOk, IfErr, O
 ghost use Rattle.ib_base.specs.World.{LacksFile};
 ghost use Rattle.ib_run.specs.OverHost.{OverHost};
 ghost use Rattle.c_program.specs.Checked.{program};
-ghost use Rattle.c_interp.specs.Running.{Begins};
+ghost use Rattle.c_eval.specs.Running.{Begins};
 ghost use Rattle.impactc_core.specs.Answers.{IsCaused, MayChange, Works};
 ghost use Rattle.impactc_core.specs.InterpAnswers.{InterpAnswer, BeginsMeaning};
 ghost use Rattle.impactc_core.specs.Notes.{status_of, note_of};
@@ -11,7 +11,7 @@ ghost use Rattle.impactc_core.specs.Work.{Interprets, InterpretsSource, IsBreak,
 use crate::front::program_of;
 use crate::source::read_source;
 use crate::{Command, CoreErr, FileName, Success};
-use c_interp::interpret;
+use c_eval::interpret;
 use c_program::Program;
 use ib_base::{Host, RunErr};
 use std::alloc::Global;

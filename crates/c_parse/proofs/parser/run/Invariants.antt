@@ -1,6 +1,6 @@
 use Rattle.std.proofs.Common.{◌≡◌, [], drop}
-use Rattle.parse_machine.specs.Machine as M
-use Rattle.parse_states.specs.Views.{state_of}
+use Rattle.c_parse_machine.specs.Machine as M
+use Rattle.c_parse_states.specs.Views.{state_of}
 use Rattle.c_parse.proofs.parser.run.Given as goal
 
 abbrev pub invariant-loop-i : goal.invariant-loop-i

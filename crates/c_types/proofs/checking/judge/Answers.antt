@@ -1,6 +1,6 @@
 use Rattle.c_ast.specs.TreeViews.{unit_of}
-use Rattle.c_operators.specs.ScopeViews.{functions_of}
-use Rattle.c_stmt_types.proofs.Typed.{also_typed, kept_where}
+use Rattle.c_types_operators.specs.ScopeViews.{functions_of}
+use Rattle.c_types_statements.proofs.Typed.{also_typed, kept_where}
 use Rattle.c_types.specs.Making.{with_items}
 use Rattle.c_types.specs.Units.{items, past_items}
 use Rattle.c_types.specs.Views.{parts_of}

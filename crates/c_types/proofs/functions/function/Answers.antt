@@ -1,7 +1,7 @@
 use Rattle.std.proofs.Common.{map}
 use Rattle.c_ast.specs.Trees.{stms}
 use Rattle.c_ast.specs.TreeViews.{type_of, param_of, stmt_of}
-use Rattle.c_functions.specs.Functions.{head_of}
+use Rattle.c_types_functions.specs.Functions.{head_of}
 use Rattle.c_types.proofs.BodyLemmas.{function_is}
 use Rattle.c_types.proofs.functions.function.Goals as goal
 

@@ -1,6 +1,6 @@
 use Rattle.std.proofs.Common.{◌+◌, map, drop}
 use Rattle.c_ast.specs.TreeViews.{param_of}
-use Rattle.c_stmt_types.proofs.Left.{next_left, none_left}
+use Rattle.c_types_statements.proofs.Left.{next_left, none_left}
 use Rattle.c_types.proofs.BodyLemmas.{next_params, no_more_params}
 use Rattle.c_types.proofs.functions.params.Goals as goal
 

@@ -1,6 +1,6 @@
 use Rattle.std.proofs.Common.{◌+◌, map, drop}
 use Rattle.c_ast.specs.TreeViews.{decl_of}
-use Rattle.c_stmt_types.proofs.Left.{next_left, none_left}
+use Rattle.c_types_statements.proofs.Left.{next_left, none_left}
 use Rattle.c_types.proofs.GlobalLemmas.{all_globals, next_global, no_more_globals}
 use Rattle.c_types.proofs.globals.globals.Goals as goal
 

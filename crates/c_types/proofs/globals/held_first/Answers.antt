@@ -1,5 +1,5 @@
 use Rattle.std.proofs.Common.{refl}
-use Rattle.c_stmt_types.proofs.Typed.{typed, typed_as}
+use Rattle.c_types_statements.proofs.Typed.{typed, typed_as}
 use Rattle.c_types.proofs.GlobalLemmas.{same_option}
 use Rattle.c_types.proofs.globals.held_first.Goals as goal
 

@@ -1,8 +1,8 @@
 use Rattle.std.proofs.Common.{refl, map}
 use Rattle.c_ast.specs.Trees.{stms}
 use Rattle.c_ast.specs.TreeViews.{type_of, param_of, stmt_of, decl_of}
-use Rattle.c_functions.specs.Functions.{head_of}
-use Rattle.c_stmt_types.proofs.Typed.{makes, with_part, typed_as}
+use Rattle.c_types_functions.specs.Functions.{head_of}
+use Rattle.c_types_statements.proofs.Typed.{makes, with_part, typed_as}
 use Rattle.c_types.specs.Making.{past_body, past_globals}
 use Rattle.c_types.specs.Units.{one_function, only_globals, function, globals, with_globals}
 use Rattle.c_types.proofs.items.item.Goals as goal

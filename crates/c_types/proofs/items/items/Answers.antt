@@ -1,8 +1,8 @@
 use Rattle.std.proofs.Common.{◌+◌, map, drop, ap₂}
 use Rattle.c_ast.specs.TreeViews.{item_of}
 use Rattle.c_typed.specs.Views.{function_of}
-use Rattle.c_operators.specs.ScopeViews.{functions_of}
-use Rattle.c_stmt_types.proofs.Left.{next_left, none_left}
+use Rattle.c_types_operators.specs.ScopeViews.{functions_of}
+use Rattle.c_types_statements.proofs.Left.{next_left, none_left}
 use Rattle.c_types.proofs.ItemLemmas.{parts_with, all_items, next_item, no_more_items}
 use Rattle.c_types.proofs.items.items.Goals as goal
 

@@ -1,7 +1,7 @@
 use Rattle.std.proofs.Common.{map, drop}
 use Rattle.std.specs.Option.{option_map}
 use Rattle.c_ast.specs.TreeViews.{item_of}
-use Rattle.c_operators.specs.ScopeViews.{functions_of}
+use Rattle.c_types_operators.specs.ScopeViews.{functions_of}
 use Rattle.c_types.specs.Views.{parts_of}
 use Rattle.c_types.proofs.ItemLemmas.{ItemsLeft}
 use Rattle.c_types.proofs.items.items.Given as goal

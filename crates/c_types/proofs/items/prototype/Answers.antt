@@ -1,7 +1,7 @@
 use Rattle.std.proofs.Common.{map}
 use Rattle.c_ast.specs.TreeViews.{type_of, param_of}
-use Rattle.c_operators.specs.ScopeViews.{functions_of}
-use Rattle.c_functions.specs.Functions.{head_of}
+use Rattle.c_types_operators.specs.ScopeViews.{functions_of}
+use Rattle.c_types_functions.specs.Functions.{head_of}
 use Rattle.c_types.proofs.ItemLemmas.{prototype_is}
 use Rattle.c_types.proofs.items.prototype.Goals as goal
 

@@ -1,6 +1,0 @@
-use Rattle.std.proofs.Common.{rules}
-use Rattle.c_interp.specs.Programs.{program_of}
-use Rattle.c_interp.proofs.machine.Machine.give_to.Goals as goal
-
-pub returns-in-Control : goal.returns-in-Control
-returns-in-Control c = let given = c.give_control.ensures (program_of c.args.source.now) in search rules

@@ -1,0 +1,4 @@
+pub mod Alike
+pub mod Level
+pub mod Steady
+mod Worked

@@ -1,0 +1,2 @@
+//! What a typed program means.
+#![tactic(auto)]

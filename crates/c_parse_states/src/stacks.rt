@@ -1,0 +1,78 @@
+//! What lies around a statement or an expression, with one more or one less.
+
+ghost use Rattle.std.specs.Prelude.{◌≡◌, ◌++◌, ◌∷◌, [], IfOk, map};
+ghost use Rattle.c_ast.specs.TreeViews.{expr_of};
+ghost use Rattle.c_parse_machine.specs.Machine as M;
+ghost use Rattle.c_parse_states.specs.Views.{arm_of, outer_of, goal_of, frame_of, frames_of, IsInnermost, IsInner};
+
+use crate::frames::{Arm, Frame, Frames, Goal, Inner, Innermost, Outer};
+use c_ast::Expr;
+use std::alloc::{AllocError, Global};
+
+#[tactic(auto, using(crate::proofs::StackLemmas::arms_snoc))]
+pub fn within(outer: Outer, arm: Arm) -> Result<Outer, AllocError>
+    ensures { IfOk result (λ made. outer_of made ≡ arm_of arm (outer_of outer)) }
+{
+    let Outer { head, front, arms } = outer;
+    let mut arms = arms;
+    arms.push(arm)?;
+    Ok(Outer { head, front, arms })
+}
+
+#[tactic(auto, using(crate::proofs::StackLemmas::arms_snoc))]
+pub fn innermost(outer: Outer) -> Innermost
+    ensures { IsInnermost result (outer_of outer) }
+{
+    let Outer { head, front, arms } = outer;
+    let mut arms = arms;
+    match arms.pop() {
+        Some(arm) => Innermost::Arm(arm, Outer { head, front, arms }),
+        None => Innermost::Body(head, front),
+    }
+}
+
+#[tactic(auto, using(crate::proofs::StackLemmas::frames_snoc))]
+pub fn under(frames: Frames, frame: Frame) -> Result<Frames, AllocError>
+    ensures { IfOk result (λ made. frames_of made ≡ frame_of frame (frames_of frames)) }
+{
+    let Frames { goal, frames } = frames;
+    let mut frames = frames;
+    frames.push(frame)?;
+    Ok(Frames { goal, frames })
+}
+
+#[tactic(auto, using(crate::proofs::StackLemmas::frames_snoc))]
+pub fn inner(frames: Frames) -> Inner
+    ensures { IsInner result (frames_of frames) }
+{
+    let Frames { goal, frames } = frames;
+    let mut frames = frames;
+    match frames.pop() {
+        Some(frame) => Inner::Frame(frame, Frames { goal, frames }),
+        None => Inner::Goal(goal),
+    }
+}
+
+/// An outermost expression.
+pub fn outermost(alloc: Global, goal: Goal) -> Result<Frames, AllocError>
+    ensures { IfOk result (λ made. frames_of made ≡ goal_of goal) }
+{
+    let goal = Box::new(alloc, goal)?;
+    Ok(alone(alloc, goal))
+}
+
+pub fn alone(alloc: Global, goal: Box<Goal>) -> Frames
+    ensures { frames_of result ≡ goal_of goal.value }
+{
+    let frames: Vec<Frame> = Vec::new(alloc);
+    Frames { goal, frames }
+}
+
+/// The expressions with one more.
+pub fn pushed(front: Vec<Expr>, last: Expr) -> Result<Vec<Expr>, AllocError>
+    ensures { IfOk result (λ all. map expr_of all.items ≡ map expr_of front.items ++ expr_of last ∷ []) }
+{
+    let mut front = front;
+    front.push(last)?;
+    Ok(front)
+}

@@ -1,8 +1,0 @@
-use Rattle.std.proofs.Common.{refl}
-use Rattle.c_typed.specs.Tree as t
-use Rattle.c_stmt_types.proofs.Behind.{past_empty}
-use Rattle.c_stmt_types.proofs.Typed.{begins, typed_as}
-use Rattle.c_stmt_types.proofs.walk.Walk.empty.Goals as goal
-
-pub returns : goal.returns
-returns c = typed_as (past_empty c.args.place c.args.self.now.at) refl (begins c.args.place (λ n. t.empty n) c.in_ok-number.ensures.number c.in_ok-number.ensures.noted)

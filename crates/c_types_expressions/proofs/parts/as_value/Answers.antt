@@ -1,0 +1,10 @@
+use Rattle.std.proofs.Common.{refl}
+use Rattle.c_types_operators.proofs.PartLemmas.{carries_some, carries_none}
+use Rattle.c_types_operators.proofs.JudgingLemmas.{fine}
+use Rattle.c_types_expressions.proofs.parts.as_value.Goals as goal
+
+pub returns-in-Some : goal.returns-in-Some
+returns-in-Some c = λ now. carries_some c.in-Some.is (fine _ refl refl)
+
+pub returns-in-None : goal.returns-in-None
+returns-in-None c = λ now. carries_none (λ found. refl) c.in-None.is

@@ -1,0 +1,8 @@
+use Rattle.c_types_operators.proofs.PartLemmas.{carries_some, carries_none, given_stays}
+use Rattle.c_types_expressions.proofs.parts.passed.Goals as goal
+
+pub returns-in_ok-answer-in-Some : goal.returns-in_ok-answer-in-Some
+returns-in_ok-answer-in-Some c = carries_some c.in-Some.is c.in_ok-answer-in-Some.ensures
+
+pub returns-in-None : goal.returns-in-None
+returns-in-None c = carries_none (given_stays _ _) c.in-None.is

@@ -1,0 +1,8 @@
+use Rattle.std.proofs.Common.{◌≡◌, ◌++◌, map, drop}
+use Rattle.c_ast.specs.TreeViews.{item_of}
+use Rattle.c_types_functions.specs.Functions.{bodies}
+use Rattle.c_types_functions.specs.Views.{plain_head}
+use Rattle.c_types_functions.proofs.unit.bodies.Given as goal
+
+abbrev pub invariant-loop-item : goal.invariant-loop-item
+invariant-loop-item l = map plain_head l.heads.items ++ bodies (map item_of (drop l.item-index l.unit.items.items)) ≡ bodies (map item_of l.unit.items.items)

@@ -1,0 +1,11 @@
+use Rattle.std.proofs.Common.{refl, ap, sym}
+use Rattle.c_types_operators.specs.Rules.{Fine}
+use Rattle.c_types_operators.proofs.JudgingLemmas.{fine}
+use Rattle.c_types_operators.proofs.PartLemmas.{carries_some, carries_none}
+use Rattle.c_types_initial.proofs.parts.only.Goals as goal
+
+pub returns-in_ok-held-in-Some : goal.returns-in_ok-held-in-Some
+returns-in_ok-held-in-Some c = λ now. carries_some c.in-Some.is (fine _ (ap (λ l. Fine l) (sym c.in_ok-held-in-Some.ensures)) refl)
+
+pub returns-in-None : goal.returns-in-None
+returns-in-None c = λ now. carries_none (λ found. refl) c.in-None.is

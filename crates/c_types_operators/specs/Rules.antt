@@ -1,0 +1,75 @@
+-- The rules of typing, by their numbers, and what judging a part of a tree gives.
+use Rattle.std.specs.Prelude.{ℕ, nat_lt, ◌==◌, ◌&&◌, ◌||◌, Bool, List, [], ◌∷◌, ◌++◌, Option, Some, None, if◌then◌else◌}
+use Rattle.ib_meaning.specs.declared.place.Place.{Place}
+use Rattle.c_types_operators.specs.declared.rule.Rule.{Rule}
+use Rattle.c_types_operators.specs.declared.rule.Rule.TheVariants.{UnknownName, Redeclared, NoMain, WrongSignature, BadType, NotAPlace, NotACondition, WrongOperands, NotAssignable, NotAFunction, ArgumentCount, OutsideALoop, ReturnValue, WrongInitialiser}
+use Rattle.c_types_operators.specs.declared.rule.Breach.{Breach}
+
+abbrev pub number_of : Rule → ℕ
+number_of UnknownName = 1
+number_of Redeclared = 2
+number_of NoMain = 3
+number_of WrongSignature = 4
+number_of BadType = 5
+number_of NotAPlace = 6
+number_of NotACondition = 7
+number_of WrongOperands = 8
+number_of NotAssignable = 9
+number_of NotAFunction = 10
+number_of ArgumentCount = 11
+number_of OutsideALoop = 12
+number_of ReturnValue = 13
+number_of WrongInitialiser = 14
+
+-- what a part of a tree means, or the rules that it breaks
+pub data Judged (A : Type 0) : Type 0 where
+  Fine : A → Judged A
+  Broken : List Breach → Judged A
+
+abbrev pub breaches : {A : Type 0} → Judged A → List Breach
+breaches (Fine a) = []
+breaches (Broken found) = found
+
+abbrev pub breaks : {A : Type 0} → Rule → Place → Judged A
+breaks rule place = Broken (record { rule = rule; place = place } ∷ [])
+
+infixl 10 ◌>>=◌
+abbrev pub ◌>>=◌ : {A B : Type 0} → Judged A → (A → Judged B) → Judged B
+Fine a >>= f = f a
+Broken found >>= f = Broken found
+
+-- two parts are judged, also where one breaks a rule
+abbrev pub both : {A B C : Type 0} → Judged A → Judged B → (A → B → Judged C) → Judged C
+both (Fine a) (Fine b) f = f a b
+both j k f = Broken (breaches j ++ breaches k)
+
+abbrev pub pair : {A B : Type 0} → Judged A → Judged B → Judged (A × B)
+pair j k = both j k (λ a b. Fine (a, b))
+
+-- what it means, or the rule that it breaks there
+abbrev pub or_breaks : {A : Type 0} → Rule → Place → Option A → Judged A
+or_breaks rule place (Some a) = Fine a
+or_breaks rule place None = breaks rule place
+
+abbrev pub is_before : Place → Place → Bool
+is_before p q = nat_lt p.line q.line || ((p.line == q.line) && nat_lt p.col q.col)
+
+abbrev pub same_place : Place → Place → Bool
+same_place p q = (p.line == q.line) && (p.col == q.col)
+
+-- at an earlier anchor, or there with a lesser rule
+abbrev pub goes_before : Breach → Breach → Bool
+goes_before x y = is_before x.place y.place || (same_place x.place y.place && nat_lt (number_of x.rule) (number_of y.rule))
+
+-- of two breaches the one that is answered
+abbrev pub earlier : Option Breach → Breach → Option Breach
+earlier None y = Some y
+earlier (Some x) y = if goes_before y x then Some y else Some x
+
+-- the first anchor, the least rule there
+abbrev pub first_from : Option Breach → List Breach → Option Breach
+first_from first [] = first
+first_from first (y ∷ ys) = first_from (earlier first y) ys
+
+abbrev pub first_breach : List Breach → Option Breach
+first_breach found = first_from None found

@@ -1,5 +1,0 @@
-use Rattle.c_ast.proofs.Rows.{call_exprs}
-use Rattle.parse_states.proofs.nodes.call.Goals as goal
-
-pub returns : goal.returns
-returns c = call_exprs c.args.place c.args.name c.args.arguments

@@ -3,13 +3,16 @@ ghost use Rattle.ib_base.specs.Cause.{HasCause};
 ghost use Rattle.ib_base.specs.World.{World, HasFile, LacksFile, BeginsFile, printed, PrintsPart, noted, NotesPart, with_file, SpoilsFile, TakesByte};
 
 use std::alloc::Global;
+use thiserror::Error;
 
 /// Why a host did not do what it was asked for.
-#[derive(Clone, Copy, PartialEq, Eq, Debug)]
+#[derive(Clone, Copy, PartialEq, Eq, Debug, Error)]
 pub enum HostErr {
     /// The system failed, or there is no such file.
+    #[error("the system failed, or there is no such file")]
     Failed,
     /// Memory was wanting.
+    #[error("there is not enough memory")]
     NoMemory,
 }
 

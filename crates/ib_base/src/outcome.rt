@@ -1,6 +1,7 @@
 use crate::host::HostErr;
 use ib_meaning::{FaultKind, Place};
 use std::alloc::{AllocError, AllocFailed};
+use thiserror::Error;
 
 /// How a run of a program came out.
 #[derive(Clone, Copy, PartialEq, Eq, Debug)]
@@ -14,11 +15,13 @@ pub enum Outcome {
 }
 
 /// Why a run has no outcome.
-#[derive(Clone, Copy, PartialEq, Eq, Debug)]
+#[derive(Clone, Copy, PartialEq, Eq, Debug, Error)]
 pub enum RunErr {
     /// A call of the host failed.
+    #[error("the system failed while the program ran")]
     Host,
     /// Memory was wanting.
+    #[error("there is not enough memory to run the program")]
     NoMemory,
 }
 

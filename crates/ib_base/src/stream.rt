@@ -1,4 +1,4 @@
-ghost use Rattle.std.specs.Prelude.{◌≡◌, ◌≤◌, ◌+◌, ◌<◌, length, take, IfOk, OnOk};
+ghost use Rattle.std.specs.Prelude.{◌≡◌, ◌≤◌, ◌+◌, ◌<◌, ◌++◌, ℕ, List, true, false, length, take, IfOk, OnOk};
 ghost use Rattle.std.specs.Io.KnownBytes.{Appends, Consumes, IsAtEnd};
 
 use crate::host::HostErr;
@@ -19,19 +19,35 @@ pub(crate) fn read_beginning<F: Read>(
 {
     let mut bytes = Vec::new(alloc);
     for _ in 0..u64::MAX {
-        let wanted = (limit - bytes.len()).min(piece.len() - 1) + 1;
-        let taken = read_some(file, &mut piece[..wanted])?;
-        if taken == 0 {
-            return Ok(bytes);
-        }
-        if bytes.extend_from_slice(&piece[..taken]).is_err() {
-            return Err(HostErr::NoMemory);
-        }
-        if bytes.len() > limit {
-            return Ok(bytes);
+        match read_piece(file, limit, piece, &mut bytes) {
+            Ok(true) => {}
+            Ok(false) => return Ok(bytes),
+            Err(error) => return Err(error),
         }
     }
     Err(HostErr::Failed)
+}
+
+/// Reads a piece behind these bytes, and says whether more is to be read.
+fn read_piece<F: Read>(
+    file: &mut F,
+    limit: usize,
+    piece: &mut [u8],
+    bytes: &mut Vec<u8>,
+) -> Result<bool, HostErr>
+    requires room { 0 < length piece.old }
+    requires within { length bytes.old.items ≤ limit }
+    ensures bound { IfOk result (λ more. length bytes.new.items ≤ limit + 1) }
+    ensures within { IfOk result (λ more. more ≡ true → length bytes.new.items ≤ limit) }
+    ensures read { IfOk result (λ more. (part : List ℕ) × (bytes.new.items ≡ bytes.old.items ++ part) × Consumes (F.remaining file.old) (F.remaining file.new) part) }
+    ensures end { IfOk result (λ more. more ≡ false → length bytes.new.items ≤ limit → IsAtEnd (F.remaining file.new)) }
+{
+    let wanted = (limit - bytes.len()).min(piece.len() - 1) + 1;
+    let taken = read_some(file, &mut piece[..wanted])?;
+    if bytes.extend_from_slice(&piece[..taken]).is_err() {
+        return Err(HostErr::NoMemory);
+    }
+    Ok(taken > 0 && bytes.len() <= limit)
 }
 
 /// Reads one byte, or answers `None` at the end.

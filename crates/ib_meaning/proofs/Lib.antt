@@ -1,3 +1,4 @@
 pub mod Agreement
+pub mod Facts
 pub mod Machine
 pub mod Simulation

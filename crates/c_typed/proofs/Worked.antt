@@ -1,5 +1,5 @@
 -- What operators give on small numbers.
-use Rattle.std.specs.Prelude.{◌≡◌, ℕ, pos, negsuc, Ok, Err}
+use Rattle.std.specs.Prelude.{◌≡◌, pos, negsuc, Ok, Err}
 use Rattle.std.proofs.Common.{refl}
 use Rattle.std.specs.Int.{int_wrap}
 use Rattle.ib_base.specs.declared.integers.Width.TheVariants.{W4}

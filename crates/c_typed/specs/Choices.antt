@@ -1,5 +1,5 @@
 -- Which operation an operator of two operands means, by their types.
-use Rattle.std.specs.Prelude.{ℕ, ◌&&◌, ◌||◌, Bool, true, false, Option, Some, None, if◌then◌else◌}
+use Rattle.std.specs.Prelude.{ℕ, ◌&&◌, ◌||◌, Bool, Option, Some, None, if◌then◌else◌}
 use Rattle.c_ast.specs.declared.tree.BinaryOp.{BinaryOp}
 use Rattle.c_ast.specs.declared.tree.BinaryOp.TheVariants as b
 use Rattle.c_typed.specs.declared.types.ValueType.{ValueType}

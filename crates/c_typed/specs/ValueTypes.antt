@@ -45,24 +45,34 @@ size_of (v.Base b) = base_size b
 size_of (v.Pointer b stars) = 8
 size_of v.Null = 8
 
-abbrev pub is_void_base : Base → Bool
-is_void_base Void = true
-is_void_base b = false
+-- the type of calls that give no value
+abbrev pub is_void : ValueType → Bool
+is_void (v.Base Void) = true
+is_void (v.Base Char) = false
+is_void (v.Base Int) = false
+is_void (v.Base Long) = false
+is_void (v.Pointer b stars) = false
+is_void v.Null = false
 
 abbrev pub is_integer : ValueType → Bool
 is_integer (v.Base Void) = false
-is_integer (v.Base b) = true
-is_integer t = false
+is_integer (v.Base Char) = true
+is_integer (v.Base Int) = true
+is_integer (v.Base Long) = true
+is_integer (v.Pointer b stars) = false
+is_integer v.Null = false
 
 -- `NULL` has a pointer type of its own
 abbrev pub is_pointer : ValueType → Bool
 is_pointer (v.Base b) = false
-is_pointer t = true
+is_pointer (v.Pointer b stars) = true
+is_pointer v.Null = true
 
 -- a pointer that leads somewhere: not the type of `NULL`
 abbrev pub leads : ValueType → Bool
 leads (v.Pointer b stars) = true
-leads t = false
+leads (v.Base b) = false
+leads v.Null = false
 
 abbrev pub base_number : Base → ℕ
 base_number Void = 0
@@ -74,11 +84,20 @@ abbrev pub same_type : ValueType → ValueType → Bool
 same_type (v.Base a) (v.Base b) = base_number a == base_number b
 same_type (v.Pointer a m) (v.Pointer b n) = (base_number a == base_number b) && (m == n)
 same_type v.Null v.Null = true
-same_type s t = false
+same_type (v.Base a) (v.Pointer b n) = false
+same_type (v.Base a) v.Null = false
+same_type (v.Pointer a m) (v.Base b) = false
+same_type (v.Pointer a m) v.Null = false
+same_type v.Null (v.Base b) = false
+same_type v.Null (v.Pointer b n) = false
 
 abbrev pub is_long : ValueType → Bool
+is_long (v.Base Void) = false
+is_long (v.Base Char) = false
+is_long (v.Base Int) = false
 is_long (v.Base Long) = true
-is_long t = false
+is_long (v.Pointer b stars) = false
+is_long v.Null = false
 
 -- a `char` is promoted to `int`
 abbrev pub promoted_rank : ValueType → Rank

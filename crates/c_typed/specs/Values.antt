@@ -7,7 +7,7 @@ use Rattle.ib_base.specs.declared.integers.Cmp.TheVariants.{Eq, Ne, Lt, Le}
 use Rattle.ib_base.specs.Integers.{wrapped, quotient, remainder, shifted_left, shifted_right, compared}
 use Rattle.ib_meaning.specs.declared.fault.FaultKind.{FaultKind}
 use Rattle.ib_meaning.specs.declared.fault.FaultKind.TheVariants.{BadAddress, Bounds}
-use Rattle.c_ast.specs.declared.tree.Base.TheVariants.{Char, Int}
+use Rattle.c_ast.specs.declared.tree.Base.TheVariants.{Void, Char, Int, Long}
 use Rattle.c_typed.specs.declared.types.ValueType.{ValueType}
 use Rattle.c_typed.specs.declared.types.ValueType.TheVariants as v
 use Rattle.c_typed.specs.declared.expr.Reach.{Reach}
@@ -24,9 +24,12 @@ use Rattle.c_typed.specs.declared.operation.Sign.{Sign}
 use Rattle.c_typed.specs.declared.operation.Sign.TheVariants as s
 
 abbrev pub width_of : ValueType → Width
+width_of (v.Base Void) = W1
 width_of (v.Base Char) = W1
 width_of (v.Base Int) = W4
-width_of ty = W8
+width_of (v.Base Long) = W8
+width_of (v.Pointer b stars) = W8
+width_of v.Null = W8
 
 -- as a value of the type
 abbrev pub converted : ValueType → ℤ → ℤ

@@ -46,17 +46,17 @@ list_exps xs = exps (map expr_of xs)
 
 abbrev pub part_of : Part → Maybe
 part_of p.Missing = missing
-part_of (p.Given x) = given (expr_of x)
+part_of (p.Given x) = given (expr_of x.value)
 
 abbrev mutual
   pub stmt_of : Stmt → Stm
   stmt_of (s.Block' _ row) = block (row_stms row)
   stmt_of (s.Empty n) = empty n
-  stmt_of (s.Expr n x) = expression n (expr_of x)
-  stmt_of (s.If' n x _ a) = if_then n (expr_of x) (stmt_of a)
-  stmt_of (s.IfElse' n x _ a _ b) = if_else n (expr_of x) (stmt_of a) (stmt_of b)
-  stmt_of (s.While' n x _ a) = while_loop n (expr_of x) (stmt_of a)
-  stmt_of (s.DoWhile' n _ a x) = do_while n (stmt_of a) (expr_of x)
+  stmt_of (s.Expr n x) = expression n (expr_of x.value)
+  stmt_of (s.If' n x _ a) = if_then n (expr_of x.value) (stmt_of a)
+  stmt_of (s.IfElse' n x _ a _ b) = if_else n (expr_of x.value) (stmt_of a) (stmt_of b)
+  stmt_of (s.While' n x _ a) = while_loop n (expr_of x.value) (stmt_of a)
+  stmt_of (s.DoWhile' n _ a x) = do_while n (stmt_of a) (expr_of x.value)
   stmt_of (s.For' n start x y _ a) = for_loop n (list_exps start.items) (part_of x) (part_of y) (stmt_of a)
   stmt_of (s.Break n) = break n
   stmt_of (s.Continue n) = continue n

@@ -1,5 +1,10 @@
+ghost use Rattle.std.specs.Prelude.{◌≡◌};
+ghost use Rattle.c_typed.specs.ExprTypes.{type_of};
+ghost use Rattle.c_typed.specs.Views.{expr_of};
+
 use crate::operation::{Operation, Rank, Sign};
-use crate::types::ValueType;
+use crate::types::{INT, ValueType};
+use c_ast::Base;
 
 /// Where a variable lies in memory.
 #[derive(Clone, Copy)]
@@ -144,4 +149,39 @@ pub enum Expr {
         parts: Vec<Expr>,
         last: Box<Expr>,
     },
+}
+
+/// The type of an expression's value, or `void`.
+pub fn type_of(x: &Expr) -> ValueType
+    ensures { result ≡ type_of (expr_of x.now) }
+{
+    match x {
+        Expr::Constant { ty, .. } => *ty,
+        Expr::Text { .. } => ValueType::Pointer {
+            to: Base::Char,
+            stars: 1,
+        },
+        Expr::Address { ty, .. } => *ty,
+        Expr::Element { ty, .. } => *ty,
+        Expr::Slot { ty, .. } => *ty,
+        Expr::Load { ty, .. } => *ty,
+        Expr::Convert { to, .. } => *to,
+        Expr::Unary { rank, .. } => rank.value_type(),
+        Expr::Not { .. } => INT,
+        Expr::Binary { ty, .. } => *ty,
+        Expr::And { .. } => INT,
+        Expr::Or { .. } => INT,
+        Expr::Conditional { ty, .. } => *ty,
+        Expr::SetSlot { ty, .. } => *ty,
+        Expr::Store { ty, .. } => *ty,
+        Expr::UpdateSlot { ty, .. } => *ty,
+        Expr::Update { ty, .. } => *ty,
+        Expr::StepSlot { ty, .. } => *ty,
+        Expr::Step { ty, .. } => *ty,
+        Expr::Call { ty, .. } => *ty,
+        Expr::GetByte => INT,
+        Expr::PutByte { .. } => INT,
+        Expr::PutNumber { .. } => ValueType::Base(Base::Void),
+        Expr::Comma { last, .. } => type_of(last),
+    }
 }

@@ -4,7 +4,7 @@ use crate::expr::Expr;
 #[derive(Drop)]
 pub enum Part {
     Missing,
-    Given(Expr),
+    Given(Box<Expr>),
 }
 
 /// A statement with its number, which its faults name. A declaration is what it assigns: a
@@ -19,28 +19,28 @@ pub enum Stmt {
     },
     Expr {
         number: u32,
-        expr: Expr,
+        expr: Box<Expr>,
     },
     If {
         number: u32,
-        test: Expr,
+        test: Box<Expr>,
         then: Box<Stmt>,
     },
     IfElse {
         number: u32,
-        test: Expr,
+        test: Box<Expr>,
         then: Box<Stmt>,
         other: Box<Stmt>,
     },
     While {
         number: u32,
-        test: Expr,
+        test: Box<Expr>,
         body: Box<Stmt>,
     },
     DoWhile {
         number: u32,
         body: Box<Stmt>,
-        test: Expr,
+        test: Box<Expr>,
     },
     /// The first part is an expression, what a declaration assigns, or nothing.
     For {

@@ -1,6 +1,6 @@
 ghost use Rattle.std.specs.Prelude.{◌≡◌, IfOk};
 ghost use Rattle.c_typed.specs.declared.types.ValueType.TheVariants as v;
-ghost use Rattle.c_typed.specs.ValueTypes.{int, long, pointer_to, pointee, base_size, size_of, is_integer, is_pointer, leads, base_number, same_type, is_long, promoted_rank, common_rank, ranked};
+ghost use Rattle.c_typed.specs.ValueTypes.{int, long, pointer_to, pointee, base_size, size_of, is_void, is_integer, is_pointer, leads, base_number, same_type, is_long, promoted_rank, common_rank, ranked};
 
 use crate::operation::Rank;
 use c_ast::Base;
@@ -79,6 +79,13 @@ impl ValueType {
             ValueType::Base(base) => base_size(base),
             ValueType::Pointer { .. } | ValueType::Null => 8,
         }
+    }
+
+    /// Whether it is the type of calls that give no value.
+    pub fn is_void(self) -> bool
+        ensures { result ≡ is_void self }
+    {
+        matches!(self, ValueType::Base(Base::Void))
     }
 
     pub fn is_integer(self) -> bool

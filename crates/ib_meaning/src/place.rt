@@ -1,3 +1,4 @@
+use itoa::Buffer;
 use std::fmt;
 
 /// A place in a source: line and column from 1, columns in bytes. It is shown as `LINE:COL`.
@@ -14,8 +15,10 @@ impl fmt::Display for Place {
     ghost output = { λ place. Some (place_text place) };
 
     fn fmt<W: fmt::Write>(&self, f: &mut fmt::Formatter<W>) -> fmt::Result {
-        let line = self.line;
-        let col = self.col;
+        let mut of_line = Buffer::new();
+        let mut of_col = Buffer::new();
+        let line = of_line.format(self.line);
+        let col = of_col.format(self.col);
         write!(f, "{line}:{col}")
     }
 }

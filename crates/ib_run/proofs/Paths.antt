@@ -1,5 +1,5 @@
 -- What a path of a machine's steps shows of its meaning and of its counts.
-use Rattle.std.proofs.Common.{◌≡◌, ℕ, zero, suc, ◌+◌, ◌<◌, ◌≤◌, Bool, List, [], ◌++◌, refl, sym, ap, ◌∙◌, subst, append_assoc, arith}
+use Rattle.std.proofs.Common.{◌≡◌, ℕ, zero, suc, ◌+◌, ◌<◌, Bool, List, [], ◌++◌, refl, sym, ap, ◌∙◌, subst, append_assoc, arith}
 use Rattle.std.proofs.lemmas.List.{append-nil}
 use Rattle.ib_meaning.specs.Agreement.{Finish, Report, More, Over, IsPrefix, out_of}
 use Rattle.ib_meaning.specs.Machine.{Machine, Step, Goes, Stops, continue, run, means, Reaches}

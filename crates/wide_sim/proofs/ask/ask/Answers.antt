@@ -8,7 +8,7 @@ loop-i-init g c = record {
   len = refl;
   asked = asked_none (g.H.Host.world c.args.host.now);
   rest = refl;
-  later = omega arith;
+  count_stands = refl;
   sure = λ s. s;
 }
 
@@ -25,7 +25,7 @@ loop-i-preserved g c =
       len = length-set c.loop-i.plan c.loop-i.i c.in-Ok.effect ∙ i.len;
       asked = asked_step c.loop-i.plan c.args.plan.now c.loop-i.i _ (g.H.Host.world c.args.host.now) (g.H.Host.world c.loop-i.host) lt i.len i.rest i.asked c.in-Ok.effect _ c.in-Ok.ensures.ok;
       rest = rest_step c.loop-i.plan c.args.plan.now c.loop-i.i c.in-Ok.effect (g.H.Host.world c.args.host.now) (g.H.Host.world c.loop-i.host) lt i.len i.rest i.asked c.in-Ok.effect;
-      later = let k = c.in-Ok.ensures.cause in omega (arith, k.later, i.later);
+      count_stands = c.in-Ok.ensures.cause.done refl ∙ i.count_stands;
       sure = λ s. c.in-Ok.ensures.still_sure (i.sure s);
     }
 

@@ -8,7 +8,7 @@ loop-done-init g c = record {
   going = goes_on c.args.self.now.stepped c.finished.result c.finished.ensures c.if-finished.false;
   same_code = refl;
   count = omega arith;
-  later = omega arith;
+  count_stands = refl;
   sure = λ s. s;
 }
 
@@ -29,6 +29,6 @@ loop-done-preserved g c =
       going = going;
       same_code = c.in-Ok.ensures.code ∙ c.loop-done.invariant.same_code;
       count = let one = c.in-Ok.ensures.counted in let before = c.loop-done.invariant.count in omega arith;
-      later = let k = c.in-Ok.ensures.cause in let before = c.loop-done.invariant.later in omega (arith, k.later);
+      count_stands = c.in-Ok.ensures.cause.done refl ∙ c.loop-done.invariant.count_stands;
       sure = λ s. c.in-Ok.ensures.still_sure (c.loop-done.invariant.sure s);
     }

@@ -1,4 +1,4 @@
-use Rattle.std.proofs.Common.{◌≡◌, ◌+◌, ◌≤◌}
+use Rattle.std.proofs.Common.{◌≡◌, ◌+◌}
 use Rattle.ib_run.specs.OverHost.{OverHost}
 use Rattle.wide_sim.specs.declared.outcome.Stepped.TheVariants.{Going}
 use Rattle.wide_sim.specs.Simulation.{Leads}
@@ -10,6 +10,6 @@ invariant-loop-done g l = record {
   going : l.self.stepped ≡ Going;
   same_code : l.self.code ≡ l.initial.self.code;
   count : l.self.cycle ≡ l.initial.self.cycle + l._done;
-  later : g.H.Host.faults l.initial.host ≤ g.H.Host.faults l.host;
+  count_stands : g.H.Host.faults l.host ≡ g.H.Host.faults l.initial.host;
   sure : g.H.Host.sure l.initial.host → g.H.Host.sure l.host;
 }

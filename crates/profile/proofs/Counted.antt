@@ -1,15 +1,13 @@
 -- The table of a run keeps the counts of its steps, and gives the counts.
-use Rattle.std.proofs.Common.{◌≡◌, ℕ, zero, suc, ◌+◌, ◌<◌, ◌≤◌, Bool, true, false, List, [], ◌∷◌, ◌++◌, Option, Some, None, length, get_or, refl, sym, ap, ap₂, ◌∙◌, subst, arith, if◌then◌else◌}
-use Rattle.std.specs.Prelude.{map, filter, slice_get, slice_index_or, ◌==◌, min, nat_lt}
-use Rattle.std.specs.List.{All}
+use Rattle.std.proofs.Common.{◌≡◌, ℕ, suc, ◌+◌, ◌<◌, Bool, true, false, List, [], ◌∷◌, ◌++◌, Option, Some, None, length, refl, sym, ap, ap₂, ◌∙◌, subst, arith, if◌then◌else◌}
+use Rattle.std.specs.Prelude.{map, slice_get, ◌==◌}
 use Rattle.std.specs.Option.{option_map}
 use Rattle.std.proofs.lemmas.Bool.Decides.{nat_tests}
 use Rattle.std.proofs.lemmas.Option.{slice_get-map}
 use Rattle.std.proofs.lemmas.List.{length-map}
-use Rattle.std.proofs.lemmas.List.Elements.{All-head, All-tail}
 use Rattle.ib_meaning.specs.Agreement.{Finish}
-use Rattle.ib_meaning.specs.Machine.{Machine, Step, Goes, Stops}
-use Rattle.ib_run.specs.Path.{Path, one_if, count_of}
+use Rattle.ib_meaning.specs.Machine.{Machine, Goes, Stops}
+use Rattle.ib_run.specs.Path.{Path, one_if}
 use Rattle.ib_run.proofs.Paths.{count_next, count_last}
 use Rattle.tac_core.specs.declared.code.Block.{Block}
 use Rattle.tac_core.specs.declared.code.TacFunc.{TacFunc}
@@ -17,9 +15,9 @@ use Rattle.tac_core.specs.declared.edges.Edge.{Edge}
 use Rattle.tac_core.specs.declared.counts.FuncCounts.{FuncCounts}
 use Rattle.tac_core.specs.Program.{Program, main_of}
 use Rattle.tac_core.specs.Meaning.{State, tac_step}
-use Rattle.tac_core.specs.Counts.{is_edge, edge_count, edges_of, entries_of, HasEdge, Rise, is_before}
-use Rattle.profile.specs.Counting.{crossed, entered, is_crossing, is_entry, start_of, crossings, entries, held, AreCounted}
-use Rattle.profile.specs.Tallies.{untaken, targets, edges_from, no_tallies, raised, entered_func, with_at, tallied, shape_of, IsTableOf, IsTallied, AreTallies, was_taken, taken_of}
+use Rattle.tac_core.specs.Counts.{is_edge, edge_count, edges_of, entries_of}
+use Rattle.profile.specs.Counting.{crossed, entered, is_crossing, is_entry, start_of, crossings, entries, held}
+use Rattle.profile.specs.Tallies.{untaken, targets, edges_from, no_tallies, raised, entered_func, with_at, tallied, shape_of, IsTableOf, IsTallied}
 use Rattle.profile.proofs.Tallied.{table_has, taken_behind, entered_behind, shape_tallied, shape_with, entries_with, edges_entered}
 
 raise_held : (b : Bool) (n : ℕ) → raised b (held n) ≡ held (n + one_if b)

@@ -1,12 +1,10 @@
 -- What the table gives in the end.
-use Rattle.std.proofs.Common.{◌≡◌, ℕ, zero, suc, ◌+◌, ◌<◌, ◌≤◌, Bool, true, false, List, [], ◌∷◌, ◌++◌, Option, Some, None, length, get_or, refl, sym, ap, ap₂, ◌∙◌, subst, inl, inr, ◌⊎◌, append_assoc, length-append, arith, if◌then◌else◌}
+use Rattle.std.proofs.Common.{◌≡◌, ℕ, zero, suc, ◌<◌, Bool, true, false, List, [], ◌∷◌, ◌++◌, length, get_or, refl, sym, ap, ◌∙◌, subst, inl, inr, append_assoc, length-append, arith, if◌then◌else◌}
 use Rattle.std.specs.Prelude.{map, filter, slice_get, nat_lt}
 use Rattle.std.specs.List.{All}
-use Rattle.std.specs.Option.{option_map}
 use Rattle.std.proofs.lemmas.Bool.Decides.{nat_tests}
-use Rattle.std.proofs.lemmas.Option.{slice_get-map}
 use Rattle.std.proofs.lemmas.List.{length-map}
-use Rattle.std.proofs.lemmas.List.Elements.{All-head, All-tail, All-nil, All-cons, All-append, All-map, All-filter, All-weaker}
+use Rattle.std.proofs.lemmas.List.Elements.{All-head, All-tail, All-nil, All-cons, All-append, All-map, All-filter}
 use Rattle.tac_core.specs.declared.code.End.{End}
 use Rattle.tac_core.specs.declared.code.End.TheVariants.{Jump, Branch, Call, Ret}
 use Rattle.tac_core.specs.declared.code.Block.{Block}
@@ -14,7 +12,7 @@ use Rattle.tac_core.specs.declared.code.TacFunc.{TacFunc}
 use Rattle.tac_core.specs.declared.edges.Edge.{Edge}
 use Rattle.tac_core.specs.declared.counts.FuncCounts.{FuncCounts}
 use Rattle.tac_core.specs.Program.{Program}
-use Rattle.tac_core.specs.Counts.{is_edge, edge_count, edges_of, entries_of, HasEdge, HasEdges, LeadsTo, IsTargetOf, Rise, is_before, AreOf}
+use Rattle.tac_core.specs.Counts.{is_edge, edge_count, edges_of, entries_of, HasEdge, HasEdges, LeadsTo, IsTargetOf, Rise, AreOf}
 use Rattle.tac_core.proofs.Lists.{slice_get_seam}
 use Rattle.profile.specs.Counting.{AreCounted}
 use Rattle.profile.specs.Tallies.{untaken, targets, edges_from, shape_of, IsTableOf, IsTallied, AreTallies, was_taken, taken_of}

@@ -1,5 +1,5 @@
 -- What a step prints that broke off in an operation.
-use Rattle.std.proofs.Common.{◌≡◌, List, ℕ, sym, ap, subst, ◌∷◌}
+use Rattle.std.proofs.Common.{◌≡◌, List, ℕ, sym, subst, ◌∷◌}
 use Rattle.ib_meaning.specs.declared.place.Place.{Place}
 use Rattle.ib_meaning.specs.Agreement.{IsPrefix}
 use Rattle.ib_base.specs.World.{World}

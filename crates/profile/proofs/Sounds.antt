@@ -1,6 +1,6 @@
 -- A run of a valid program stays in blocks that are there.
-use Rattle.std.proofs.Common.{◌≡◌, ℕ, zero, suc, ◌+◌, ◌<◌, ◌≤◌, ℤ, List, [], ◌∷◌, Option, Some, None, length, take, drop, slice_set, get_or, refl, sym, ap, ap₂, ◌∙◌, subst, pos, lit<, arith}
-use Rattle.std.specs.Prelude.{slice_get, replicate, IsSomeAnd, Bool, false}
+use Rattle.std.proofs.Common.{◌≡◌, ℕ, suc, ◌+◌, ◌<◌, ◌≤◌, ℤ, List, [], ◌∷◌, Option, Some, length, refl, sym, ap, ap₂, ◌∙◌, subst, pos, lit<, arith}
+use Rattle.std.specs.Prelude.{slice_get, replicate, IsSomeAnd, false}
 use Rattle.std.proofs.lemmas.List.{length-replicate}
 use Rattle.std.proofs.lemmas.Bool.Decides.{nat_tests}
 use Rattle.std.specs.List.{All}

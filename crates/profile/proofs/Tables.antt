@@ -5,9 +5,8 @@ use Rattle.std.proofs.lemmas.List.Elements.{All-set, All-map, All-nil, All-cons,
 use Rattle.std.proofs.lemmas.List.Kept.{AllPairs-cons, AllPairs-filter}
 use Rattle.std.proofs.lemmas.Option.{get_or_from_slice_get, slice_get_within}
 use Rattle.std.proofs.lemmas.Bool.Decides.{nat_tests}
-use Rattle.std.proofs.Math.Seq.{take-suc}
-use Rattle.std.specs.Prelude.{map, filter, slice_get, IsSomeAnd, IfSome, ◌≢◌, ◌==◌, ◌&&◌, ◌||◌, min}
-use Rattle.std.specs.List.{All, AllPairs}
+use Rattle.std.specs.Prelude.{map, filter, slice_get, IsSomeAnd, IfSome, ◌≢◌, ◌==◌, ◌&&◌}
+use Rattle.std.specs.List.{All}
 use Rattle.tac_core.specs.declared.code.Block.{Block}
 use Rattle.tac_core.specs.declared.edges.Edge.{Edge}
 use Rattle.tac_core.specs.declared.counts.FuncCounts.{FuncCounts}

@@ -1,25 +1,19 @@
 -- The table of a run, step by step.
-use Rattle.std.proofs.Common.{◌≡◌, ℕ, zero, suc, ◌+◌, ◌<◌, ◌≤◌, Bool, true, false, List, [], ◌∷◌, ◌++◌, Option, Some, None, length, get_or, refl, sym, ap, ap₂, ◌∙◌, subst, inl, inr, ◌⊎◌, arith, if◌then◌else◌}
-use Rattle.std.specs.Prelude.{map, filter, slice_get, ◌==◌, ◌&&◌, min, nat_lt}
-use Rattle.std.specs.List.{All}
+use Rattle.std.proofs.Common.{◌≡◌, ℕ, zero, suc, ◌+◌, ◌<◌, Bool, true, false, List, [], ◌∷◌, ◌++◌, Option, Some, None, length, refl, sym, ap, ◌∙◌, subst, inl, inr, ◌⊎◌, arith, if◌then◌else◌}
+use Rattle.std.specs.Prelude.{map, slice_get, ◌==◌, ◌&&◌, nat_lt}
 use Rattle.std.specs.Option.{option_map}
 use Rattle.std.proofs.lemmas.Bool.Decides.{nat_tests}
 use Rattle.std.proofs.lemmas.Option.{slice_get-map}
-use Rattle.ib_meaning.specs.Agreement.{Finish}
-use Rattle.ib_meaning.specs.Machine.{Machine, Step, Goes, Stops}
-use Rattle.ib_run.specs.Path.{Path, one_if, count_of}
-use Rattle.ib_run.proofs.Paths.{count_next, count_last}
 use Rattle.tac_core.specs.declared.code.End.{End}
 use Rattle.tac_core.specs.declared.code.End.TheVariants.{Jump, Branch, Call, Ret}
 use Rattle.tac_core.specs.declared.code.Block.{Block}
 use Rattle.tac_core.specs.declared.code.TacFunc.{TacFunc}
 use Rattle.tac_core.specs.declared.edges.Edge.{Edge}
 use Rattle.tac_core.specs.declared.counts.FuncCounts.{FuncCounts}
-use Rattle.tac_core.specs.Program.{Program, main_of}
-use Rattle.tac_core.specs.Meaning.{State, tac_step, block_of}
+use Rattle.tac_core.specs.Meaning.{State}
 use Rattle.tac_core.specs.Counts.{is_edge, edge_count, edges_of, entries_of, HasEdge, IsTargetOf, LeadsTo}
-use Rattle.profile.specs.Counting.{Crossing, crossed, entered, is_crossing, is_entry, start_of, crossings, entries, held}
-use Rattle.profile.specs.Tallies.{targets, untaken, edges_from, raised, crossed_edge, crossed_func, entered_func, with_at, tallied_crossing, tallied_entry, tallied, shape_of, IsTableOf, IsTallied}
+use Rattle.profile.specs.Counting.{Crossing, crossed, entered, is_crossing, is_entry}
+use Rattle.profile.specs.Tallies.{targets, untaken, edges_from, raised, crossed_edge, crossed_func, entered_func, with_at, tallied_crossing, tallied_entry, tallied, shape_of, IsTableOf}
 
 -- ---- an edge is in the table
 

@@ -1,15 +1,15 @@
 -- A run over a host, step by step, and what it shows of the program's meaning.
-use Rattle.std.proofs.Common.{◌≡◌, ℕ, zero, suc, ◌+◌, ◌<◌, ◌≤◌, List, [], ◌++◌, refl, sym, ap, ◌∙◌, subst, ℤ, arith}
+use Rattle.std.proofs.Common.{◌≡◌, ℕ, suc, ◌+◌, ◌<◌, List, [], ◌++◌, refl, sym, ap, ◌∙◌, subst, ℤ, arith}
 use Rattle.std.proofs.lemmas.List.{append-nil}
 use Rattle.ib_meaning.specs.declared.place.Place.{Place}
 use Rattle.ib_meaning.specs.declared.fault.FaultKind.{FaultKind}
-use Rattle.ib_meaning.specs.Agreement.{Report, More, Over, Finish, Returned, Faulted, IsPrefix, out_of}
-use Rattle.ib_meaning.specs.Machine.{Machine, Goes, Stops}
+use Rattle.ib_meaning.specs.Agreement.{Over, Finish, Returned, Faulted, IsPrefix, out_of}
+use Rattle.ib_meaning.specs.Machine.{Stops}
 use Rattle.ib_base.specs.World.{World}
 use Rattle.ib_base.specs.declared.outcome.Outcome.{Outcome}
 use Rattle.ib_base.specs.declared.outcome.Outcome.TheVariants.{Ended, Faulted as FaultedAt, Spent}
 use Rattle.ib_run.specs.OverHost.{OverHost}
-use Rattle.ib_run.specs.Path.{Path, Start, Then, printed_of}
+use Rattle.ib_run.specs.Path.{Start, Then}
 use Rattle.ib_run.proofs.OverHost.{over_none, over_join, over_weaken}
 use Rattle.ib_run.proofs.Paths.{path_more, path_over, path_begins}
 use Rattle.tac_core.specs.declared.counts.FuncCounts.{FuncCounts}
@@ -17,16 +17,14 @@ use Rattle.tac_core.specs.Program.{Program}
 use Rattle.tac_core.specs.Meaning.{State, tac_step, tac_meaning}
 use Rattle.profile.specs.declared.progress.Progress.{Progress}
 use Rattle.profile.specs.declared.progress.Progress.TheVariants.{Going, Done, Broken}
-use Rattle.profile.specs.Counting.{start_of, AreCounted}
+use Rattle.profile.specs.Counting.{start_of}
 use Rattle.profile.specs.Running.{Steps, StepsPart, Begins, Runs}
 use Rattle.ib_run.specs.Report.{report_of}
 use Rattle.profile.specs.Tallies.{IsTallied, AreTallies, tallied, taken_of}
 use Rattle.profile.specs.Walking.{Walked, Reported}
-use Rattle.std.specs.Prelude.{length, map, Result}
+use Rattle.std.specs.Prelude.{length, map}
 use Rattle.std.specs.List.{All}
 use Rattle.profile.proofs.Finals.{counted}
-use Rattle.ib_base.specs.Cause.{Rose, RunCause}
-use Rattle.ib_base.specs.declared.outcome.RunErr.{RunErr}
 use Rattle.tac_core.specs.declared.code.TacFunc.{TacFunc}
 use Rattle.profile.specs.Tallies.{IsTableOf}
 use Rattle.profile.proofs.Tallied.{shape_tallied}
@@ -129,15 +127,6 @@ walk_part p q k budget s table w0 w1 w2 same below walked step =
 
 pub walk_spent : (p : Program) (k budget : ℕ) (s : State) (table : List FuncCounts) (w0 w1 : World) → k ≡ budget → OverHost (Walked p k s table) w0 w1 → OverHost (Reported p budget Spent table) w0 w1
 walk_spent p k budget s table w0 w1 is walked = walked_spent p budget s table w0 w1 (subst (λ n. OverHost (Walked p n s table) w0 w1) is walked)
-
-pub later_cause : (before middle after : ℕ) {T : Type 0} (result : Result T RunErr) → before ≤ middle → RunCause middle after result → RunCause before after result
-later_cause before middle after result le cause = record {
-  later = let l = cause.later in omega arith;
-  failed = λ e. let l = cause.later in let r = cause.failed e in rose_before before middle after le r;
-}
-  where
-    rose_before : (b m a : ℕ) → b ≤ m → Rose m a → Rose b a
-    rose_before b m a le r = omega arith
 
 pub runs_so : (p q : Program) (budget : ℕ) (outcome said : Outcome) (table counts : List FuncCounts) (before after : World) → q ≡ p → said ≡ outcome → OverHost (Reported q budget outcome table) before after → All AreTallies table → counts ≡ map taken_of table → OverHost (Runs p budget said counts) before after
 runs_so p q budget outcome said table counts before after same says reported all made =

@@ -3,7 +3,7 @@ use Rattle.std.specs.Prelude.{◌≡◌, ℕ, ℤ, pos, negsuc, List, [], ◌∷
 use Rattle.ib_base.specs.declared.outcome.Outcome.{Outcome}
 use Rattle.ib_meaning.specs.declared.fault.FaultKind.{FaultKind}
 use Rattle.ib_meaning.specs.declared.fault.FaultKind.TheVariants.{BadAddress}
-use Rattle.ib_meaning.specs.Agreement.{Finish, Returned, Faulted, IsPrefix, out_of}
+use Rattle.ib_meaning.specs.Agreement.{Returned, Faulted, IsPrefix, out_of}
 use Rattle.ib_meaning.specs.Machine.{Step, Goes, Stops}
 use Rattle.ib_run.specs.Path.{printed_of}
 use Rattle.ib_run.specs.Report.{report_of}

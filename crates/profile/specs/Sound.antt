@@ -1,7 +1,6 @@
 -- What a run of a valid program keeps: its calls are of the program's functions, in blocks that are there.
-use Rattle.std.specs.Prelude.{◌≡◌, ℕ, ◌+◌, ◌<◌, ◌≤◌, ℤ, List, [], ◌∷◌, Option, Some, IsSomeAnd, length, slice_get}
+use Rattle.std.specs.Prelude.{◌≡◌, ℕ, ◌+◌, ◌<◌, ◌≤◌, ℤ, List, [], ◌∷◌, Some, IsSomeAnd, length, slice_get}
 use Rattle.std.specs.List.{All}
-use Rattle.tac_core.specs.declared.code.TacOp.{TacOp}
 use Rattle.tac_core.specs.declared.code.End.{End}
 use Rattle.tac_core.specs.declared.code.Block.{Block}
 use Rattle.tac_core.specs.declared.code.TacFunc.{TacFunc}

@@ -1,5 +1,5 @@
-use Rattle.std.proofs.Common.{◌≡◌, length, drop, pos}
-use Rattle.std.specs.Prelude.{Some, replicate}
+use Rattle.std.proofs.Common.{◌≡◌, length, drop}
+use Rattle.std.specs.Prelude.{Some}
 use Rattle.tac_core.specs.Meaning.{set_all, first_regs}
 use Rattle.profile.proofs.calls.first_regs.Given as goal
 

@@ -1,5 +1,4 @@
-use Rattle.std.proofs.Common.{rules, sym, ap, ◌∙◌, subst}
-use Rattle.tac_core.specs.Program.{Program}
+use Rattle.std.proofs.Common.{sym, subst}
 use Rattle.profile.specs.Tallies.{IsTallied, IsTableOf}
 use Rattle.profile.proofs.Finals.{of_program}
 use Rattle.profile.proofs.Walks.{runs_so, begins_so}

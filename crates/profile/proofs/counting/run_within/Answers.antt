@@ -1,4 +1,4 @@
-use Rattle.std.proofs.Common.{rules, [], refl, sym, ap, ◌∙◌}
+use Rattle.std.proofs.Common.{rules, [], refl, ◌∙◌}
 use Rattle.profile.specs.Sound.{state_of}
 use Rattle.profile.proofs.Walks.{walk_starts, many_tallies, shape_kept, walk_next, walk_done, walk_broken, walk_part, walk_spent}
 use Rattle.profile.proofs.counting.run_within.Goals as goal

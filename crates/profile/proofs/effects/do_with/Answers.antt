@@ -1,4 +1,4 @@
-use Rattle.std.proofs.Common.{rules, refl, sym, ap, ◌∙◌}
+use Rattle.std.proofs.Common.{rules}
 use Rattle.std.proofs.lemmas.Result.{IfOk-weaker, on_err_weaker}
 use Rattle.profile.proofs.Doings.{store_takes, value_takes, get_takes_so, get_part, print_takes_so, print_part}
 use Rattle.profile.proofs.effects.do_with.Goals as goal

@@ -1,3 +1,4 @@
+pub mod Groups
 pub mod Machines
 pub mod Moves
 pub mod Outcomes

@@ -97,7 +97,7 @@ impl<'a> Machine<'a> {
             top: self.top,
             slots: mem::replace(&mut self.slots, slots),
         };
-        self.frames.push(Frame::Called { caller })?;
+        self.push(Frame::Called { caller })?;
         self.open(function);
         self.rest_first(function.body.as_slice())
     }

@@ -1,9 +1,11 @@
 ghost use Rattle.std.specs.Prelude.{◌≡◌, IfOk, MatchOption, [], ◌∷◌};
+ghost use Rattle.c_typed.specs.Program.{Program};
 ghost use Rattle.c_typed.specs.Views.{expr_of, list_exps};
 ghost use Rattle.c_eval.specs.Machines.{machine_of};
 ghost use Rattle.c_eval.specs.Programs.{program_of};
 ghost use Rattle.c_eval.specs.Moves as m;
 ghost use Rattle.c_eval.specs.Views.{move_of};
+ghost use Rattle.c_eval.specs.Groups.{IsOperation, IsEffect};
 
 use crate::frame::{Ask, Frame, Move, Task};
 use crate::machine::{Machine, give};
@@ -62,7 +64,7 @@ impl<'a> Machine<'a> {
     ) -> Result<Move<'a>, AllocError>
         ensures { IfOk result (λ r. move_of r (machine_of self.new) ≡ m.eval_call function (list_exps arguments.now) number (machine_of self.old)) }
     {
-        self.frames.push(Frame::Callee { function, number })?;
+        self.push(Frame::Callee { function, number })?;
         self.pass_first(arguments, number)
     }
 
@@ -81,19 +83,12 @@ impl<'a> Machine<'a> {
         self.set_or(new, ty, slot, Some(old), number)
     }
 
-    /// Evaluates an expression of the statement with the number, as far as what comes first.
-    pub(crate) fn eval(
-        &mut self,
-        source: &Source,
-        expr: &'a Expr,
-        number: u32,
-    ) -> Result<Move<'a>, AllocError>
-        ensures { IfOk result (λ r. move_of r (machine_of self.new) ≡ m.eval (program_of source.now) (expr_of expr.now) number (machine_of self.old)) }
+    /// Evaluates an operation as far as its first operand.
+    fn eval_operation(&mut self, expr: &'a Expr, number: u32) -> Result<Move<'a>, AllocError>
+        requires { IsOperation (expr_of expr.now) }
+        ensures { (source : Program) → IfOk result (λ r. move_of r (machine_of self.new) ≡ m.eval source (expr_of expr.now) number (machine_of self.old)) }
     {
         match expr {
-            Expr::Constant { value, .. } => Ok(give(*value)),
-            Expr::Text { ordinal } => Ok(give(source.string(*ordinal))),
-            Expr::Address { of, .. } => Ok(give(source.storage(self.base, *of))),
             Expr::Element {
                 array,
                 length,
@@ -112,7 +107,6 @@ impl<'a> Machine<'a> {
                 index,
                 number,
             ),
-            Expr::Slot { slot, .. } => Ok(give(self.slot(*slot))),
             Expr::Load { ty, address } => self.operand(
                 Frame::Load { ty: *ty, number },
                 address,
@@ -162,6 +156,16 @@ impl<'a> Machine<'a> {
                 test,
                 number,
             ),
+            _ => unreachable!(),
+        }
+    }
+
+    /// Evaluates what sets a variable, stores or prints as far as its first operand.
+    fn eval_effect(&mut self, expr: &'a Expr, number: u32) -> Result<Move<'a>, AllocError>
+        requires { IsEffect (expr_of expr.now) }
+        ensures { (source : Program) → IfOk result (λ r. move_of r (machine_of self.new) ≡ m.eval source (expr_of expr.now) number (machine_of self.old)) }
+    {
+        match expr {
             Expr::SetSlot { slot, value, .. } => self.operand(
                 Frame::SetSlot { slot: *slot },
                 value,
@@ -214,12 +218,6 @@ impl<'a> Machine<'a> {
                 address,
                 number,
             ),
-            Expr::StepSlot {
-                ty,
-                slot,
-                within,
-                op,
-            } => Ok(self.step_slot(*ty, *slot, *within, *op, number)),
             Expr::Step {
                 ty,
                 address,
@@ -235,15 +233,55 @@ impl<'a> Machine<'a> {
                 address,
                 number,
             ),
+            Expr::PutByte { value } => { self.operand(Frame::PutByte, value, number) }
+            Expr::PutNumber { value } => { self.operand(Frame::PutNumber, value, number) }
+            _ => unreachable!(),
+        }
+    }
+
+    /// Evaluates an expression of the statement with the number, as far as what comes first.
+    pub(crate) fn eval(
+        &mut self,
+        source: &Source,
+        expr: &'a Expr,
+        number: u32,
+    ) -> Result<Move<'a>, AllocError>
+        ensures { IfOk result (λ r. move_of r (machine_of self.new) ≡ m.eval (program_of source.now) (expr_of expr.now) number (machine_of self.old)) }
+    {
+        match expr {
+            Expr::Constant { value, .. } => Ok(give(*value)),
+            Expr::Text { ordinal } => Ok(give(source.string(*ordinal))),
+            Expr::Address { of, .. } => Ok(give(source.storage(self.base, *of))),
+            Expr::Slot { slot, .. } => Ok(give(self.slot(*slot))),
+            Expr::StepSlot {
+                ty,
+                slot,
+                within,
+                op,
+            } => Ok(self.step_slot(*ty, *slot, *within, *op, number)),
             Expr::Call {
                 function,
                 arguments,
                 ..
             } => self.call(*function, arguments.as_slice(), number),
             Expr::GetByte => Ok(Move::Asks { ask: Ask::GetByte }),
-            Expr::PutByte { value } => { self.operand(Frame::PutByte, value, number) }
-            Expr::PutNumber { value } => { self.operand(Frame::PutNumber, value, number) }
             Expr::Comma { parts, last } => self.comma_first(parts.as_slice(), last, number),
+            Expr::Element { .. }
+            | Expr::Load { .. }
+            | Expr::Convert { .. }
+            | Expr::Unary { .. }
+            | Expr::Not { .. }
+            | Expr::Binary { .. }
+            | Expr::And { .. }
+            | Expr::Or { .. }
+            | Expr::Conditional { .. } => self.eval_operation(expr, number),
+            Expr::SetSlot { .. }
+            | Expr::Store { .. }
+            | Expr::UpdateSlot { .. }
+            | Expr::Update { .. }
+            | Expr::Step { .. }
+            | Expr::PutByte { .. }
+            | Expr::PutNumber { .. } => self.eval_effect(expr, number),
         }
     }
 }

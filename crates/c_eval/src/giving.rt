@@ -6,6 +6,7 @@ ghost use Rattle.c_eval.specs.Machines.{machine_of};
 ghost use Rattle.c_eval.specs.Programs.{program_of};
 ghost use Rattle.c_eval.specs.Moves as m;
 ghost use Rattle.c_eval.specs.Views.{frame_of, control_frame, move_of};
+ghost use Rattle.c_eval.specs.Groups.{IsDoneBy, Changes, GoesOnBy};
 
 use crate::frame::{Ask, Exit, Frame, Move, Phase, Want};
 use crate::machine::{Machine, give, given_or};
@@ -75,7 +76,7 @@ impl<'a> Machine<'a> {
     fn hold(&mut self, value: i64, rest: &'a [Expr], number: u32) -> Result<Move<'a>, AllocError>
         ensures { IfOk result (λ r. move_of r (machine_of self.new) ≡ m.hold (list_exps rest.now) value number (machine_of self.old)) }
     {
-        self.frames.push(Frame::Held { value })?;
+        self.push(Frame::Held { value })?;
         self.pass_first(rest, number)
     }
 
@@ -102,14 +103,10 @@ impl<'a> Machine<'a> {
         }
     }
 
-    /// Gives a value to what waits first; the machine is without it.
-    pub(crate) fn give_to(
-        &mut self,
-        source: &Source,
-        frame: &Frame<'a>,
-        value: i64,
-    ) -> Result<Move<'a>, AllocError>
-        ensures { IfOk result (λ r. move_of r (machine_of self.new) ≡ m.give_to (program_of source.now) (frame_of frame.now) value (machine_of self.old)) }
+    /// Gives a value to an operation that it completes.
+    fn complete(&self, source: &Source, frame: &Frame<'a>, value: i64) -> Move<'a>
+        requires { IsDoneBy frame.now }
+        ensures { move_of result (machine_of self.now) ≡ m.give_to (program_of source.now) (frame_of frame.now) value (machine_of self.now) }
     {
         match *frame {
             Frame::Element {
@@ -120,12 +117,71 @@ impl<'a> Machine<'a> {
                 number,
             } => {
                 let start = source.storage(self.base, array);
-                Ok(given_or(element(start, length, size, reach, value), number))
+                given_or(element(start, length, size, reach, value), number)
             }
-            Frame::Load { ty, number } => Ok(given_or(self.read(ty, value), number)),
-            Frame::Convert { ty } => Ok(give(converted(ty, value))),
-            Frame::Unary { op, rank } => Ok(give(signed(op, rank, value))),
-            Frame::Not => Ok(give(truth(!is_true(value)))),
+            Frame::Load { ty, number } => given_or(self.read(ty, value), number),
+            Frame::Convert { ty } => give(converted(ty, value)),
+            Frame::Unary { op, rank } => give(signed(op, rank, value)),
+            Frame::Not => give(truth(!is_true(value))),
+            Frame::Right { op, left, number } => given_or(operated(op, left, value), number),
+            Frame::Truth => give(truth(is_true(value))),
+            _ => unreachable!(),
+        }
+    }
+
+    /// Gives a value to what sets a variable or stores.
+    fn change(&mut self, frame: &Frame<'a>, value: i64) -> Move<'a>
+        requires { Changes frame.now }
+        ensures { (source : Program) → move_of result (machine_of self.new) ≡ m.give_to source (frame_of frame.now) value (machine_of self.old) }
+    {
+        match *frame {
+            Frame::SetSlot { slot } => {
+                self.set_slot(slot, value);
+                give(value)
+            }
+            Frame::StoreValue {
+                ty,
+                address,
+                number,
+            } => self.store(ty, address, value, value, number),
+            Frame::UpdateSlot {
+                ty,
+                slot,
+                within,
+                op,
+                old,
+                number,
+            } => {
+                let new = operated(op, converted(within, old), value);
+                self.set_or(new, ty, slot, None, number)
+            }
+            Frame::UpdateValue {
+                ty,
+                address,
+                within,
+                op,
+                old,
+                number,
+            } => {
+                let new = operated(op, converted(within, old), value);
+                self.store_or(new, ty, address, None, number)
+            }
+            Frame::StepAt {
+                ty,
+                within,
+                op,
+                number,
+            } => self.step_at(ty, value, within, op, number),
+            _ => unreachable!(),
+        }
+    }
+
+    /// Gives a value to an operation that needs another expression behind it, or one of two.
+    fn follow(&mut self, frame: &Frame<'a>, value: i64) -> Result<Move<'a>, AllocError>
+        requires { GoesOnBy frame.now }
+        ensures { (source : Program) → IfOk result (λ r. move_of r (machine_of self.new) ≡ m.give_to source (frame_of frame.now) value (machine_of self.old)) }
+    {
+        match *frame {
             Frame::Left { op, right, number } => self.operand(
                 Frame::Right {
                     op,
@@ -135,7 +191,6 @@ impl<'a> Machine<'a> {
                 right,
                 number,
             ),
-            Frame::Right { op, left, number } => Ok(given_or(operated(op, left, value), number)),
             Frame::Both { right, number } => {
                 if is_true(value) {
                     self.decide(right, number)
@@ -150,7 +205,6 @@ impl<'a> Machine<'a> {
                     self.decide(right, number)
                 }
             }
-            Frame::Truth => Ok(give(truth(is_true(value)))),
             Frame::Choice {
                 here,
                 other,
@@ -160,10 +214,6 @@ impl<'a> Machine<'a> {
             } else {
                 eval(other, number)
             }),
-            Frame::SetSlot { slot } => {
-                self.set_slot(slot, value);
-                Ok(give(value))
-            }
             Frame::StoreAt {
                 ty,
                 value: right,
@@ -177,22 +227,6 @@ impl<'a> Machine<'a> {
                 right,
                 number,
             ),
-            Frame::StoreValue {
-                ty,
-                address,
-                number,
-            } => Ok(self.store(ty, address, value, value, number)),
-            Frame::UpdateSlot {
-                ty,
-                slot,
-                within,
-                op,
-                old,
-                number,
-            } => {
-                let new = operated(op, converted(within, old), value);
-                Ok(self.set_or(new, ty, slot, None, number))
-            }
             Frame::UpdateAt {
                 ty,
                 within,
@@ -200,23 +234,38 @@ impl<'a> Machine<'a> {
                 value: right,
                 number,
             } => self.update_at(ty, value, within, op, right, number),
-            Frame::UpdateValue {
-                ty,
-                address,
-                within,
-                op,
-                old,
-                number,
-            } => {
-                let new = operated(op, converted(within, old), value);
-                Ok(self.store_or(new, ty, address, None, number))
-            }
-            Frame::StepAt {
-                ty,
-                within,
-                op,
-                number,
-            } => Ok(self.step_at(ty, value, within, op, number)),
+            _ => unreachable!(),
+        }
+    }
+
+    /// Gives a value to what waits first; the machine is without it.
+    pub(crate) fn give_to(
+        &mut self,
+        source: &Source,
+        frame: &Frame<'a>,
+        value: i64,
+    ) -> Result<Move<'a>, AllocError>
+        ensures { IfOk result (λ r. move_of r (machine_of self.new) ≡ m.give_to (program_of source.now) (frame_of frame.now) value (machine_of self.old)) }
+    {
+        match *frame {
+            Frame::Element { .. }
+            | Frame::Load { .. }
+            | Frame::Convert { .. }
+            | Frame::Unary { .. }
+            | Frame::Not
+            | Frame::Right { .. }
+            | Frame::Truth => Ok(self.complete(source, frame, value)),
+            Frame::SetSlot { .. }
+            | Frame::StoreValue { .. }
+            | Frame::UpdateSlot { .. }
+            | Frame::UpdateValue { .. }
+            | Frame::StepAt { .. } => Ok(self.change(frame, value)),
+            Frame::Left { .. }
+            | Frame::Both { .. }
+            | Frame::Either { .. }
+            | Frame::Choice { .. }
+            | Frame::StoreAt { .. }
+            | Frame::UpdateAt { .. } => self.follow(frame, value),
             Frame::Argument { rest, number } => self.hold(value, rest, number),
             Frame::PutByte => Ok(Move::Asks {
                 ask: Ask::PutByte { value },

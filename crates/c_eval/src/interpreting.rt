@@ -205,11 +205,15 @@ fn run<H: Host>(
     ensures still_sure { H.sure host.old → H.sure host.new }
     ensures never { H.sure host.old → IsErrOf result RunErr.Host → ⊥ }
 {
-    let (mut machine, first) = match started(alloc, source) {
-        Ok(started) => started,
-        Err(error) => return Err(RunErr::from(error)),
-    };
-    run_within(alloc, source, &mut machine, first, host, budget)
+    match started(alloc, source) {
+        Ok(started) => {
+            let (mut machine, first) = started;
+            let outcome = run_within(alloc, source, &mut machine, first, host, budget);
+            drop(machine);
+            outcome
+        }
+        Err(error) => Err(RunErr::from(error)),
+    }
 }
 
 /// A run, and the first move of `main`.
@@ -219,6 +223,11 @@ fn started<'a>(alloc: Global, source: &Source<'a>) -> Result<(Machine<'a>, Move<
     ensures { IfOk result (λ it. move_of it.1 (machine_of it.0) ≡ m.started (program_of source.now)) }
 {
     let mut machine = before_main(alloc, source)?;
-    let first = start(alloc, source, &mut machine)?;
-    Ok((machine, first))
+    match start(alloc, source, &mut machine) {
+        Ok(first) => Ok((machine, first)),
+        Err(error) => {
+            drop(machine);
+            Err(error)
+        }
+    }
 }

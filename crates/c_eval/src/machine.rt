@@ -1,4 +1,4 @@
-ghost use Rattle.std.specs.Prelude.{◌≡◌, pos, slice_index_or, unwrap_or, IfOk};
+ghost use Rattle.std.specs.Prelude.{◌≡◌, pos, slice_index_or, unwrap_or, IfOk, OnOk};
 ghost use Rattle.std.specs.Option.{MatchOption};
 ghost use Rattle.c_typed.specs.Views.{expr_of};
 ghost use Rattle.c_eval.specs.Pending as p;
@@ -48,11 +48,19 @@ pub(crate) fn given_or<'a>(value: Result<i64, FaultKind>, number: u32) -> Move<'
 }
 
 impl<'a> Machine<'a> {
+    /// Something waits for what comes.
+    pub(crate) fn push(&mut self, frame: Frame<'a>) -> Result<(), AllocError>
+        ensures { OnOk result (machine_of self.new ≡ m.push (frame_of frame.entry) (machine_of self.old)) }
+    {
+        self.frames.push(frame)?;
+        Ok(())
+    }
+
     /// A task, while something waits for what it gives.
     pub(crate) fn wait(&mut self, frame: Frame<'a>, task: Task<'a>) -> Result<Move<'a>, AllocError>
         ensures { IfOk result (λ r. move_of r (machine_of self.new) ≡ Goes (task_of task.entry) (m.push (frame_of frame.entry) (machine_of self.old))) }
     {
-        self.frames.push(frame)?;
+        self.push(frame)?;
         Ok(Move::Goes { task })
     }
 

@@ -48,7 +48,7 @@ fn given_part<'a>(part: &'a Part) -> Option<&'a Expr>
 {
     match part {
         Part::Missing => None,
-        Part::Given(expr) => Some(expr),
+        Part::Given(expr) => Some(&**expr),
     }
 }
 
@@ -59,7 +59,7 @@ pub(crate) fn turns_in<'a>(stmt: &'a Stmt) -> Turns<'a>
     match stmt {
         Stmt::While { number, test, body } | Stmt::DoWhile { number, test, body } => Turns {
             number: *number,
-            test: Some(test),
+            test: Some(&**test),
             last: None,
             body,
         },
@@ -167,7 +167,7 @@ impl<'a> Machine<'a> {
         ensures { IfOk result (λ r. move_of r (machine_of self.new) ≡ m.begin (turns_in (stmt_of stmt.now)) (list_exps start.now) number (machine_of self.old)) }
     {
         let phase = Phase::Begin;
-        self.frames.push(Frame::Control { phase, stmt })?;
+        self.push(Frame::Control { phase, stmt })?;
         self.parts_first(start, number)
     }
 

@@ -1,4 +1,4 @@
-use Rattle.std.proofs.Common.{◌≤◌}
+use Rattle.std.proofs.Common.{◌≡◌}
 use Rattle.ib_run.specs.OverHost.{OverHost}
 use Rattle.c_eval.specs.Machines.{machine_of}
 use Rattle.c_eval.specs.Programs.{program_of}
@@ -9,4 +9,4 @@ use Rattle.c_eval.proofs.interpreting.run_within.Given as goal
 abbrev pub invariant-loop-spent : goal.invariant-loop-spent
 invariant-loop-spent g l =
     OverHost (Stands (move_run (program_of l.source) (move_of l.fn.first (machine_of l.fn.machine))) (halt_run (program_of l.source) l.at (machine_of l.machine)) l.fn.budget l._spent) (g.H.Host.world l.fn.host) (g.H.Host.world l.host)
-    × (g.H.Host.faults l.fn.host ≤ g.H.Host.faults l.host) × (g.H.Host.sure l.fn.host → g.H.Host.sure l.host)
+    × (g.H.Host.faults l.host ≡ g.H.Host.faults l.fn.host) × (g.H.Host.sure l.fn.host → g.H.Host.sure l.host)

@@ -1,10 +1,18 @@
-use Rattle.std.proofs.Common.{rules}
+use Rattle.std.proofs.Common.{rules, refl}
 use Rattle.c_eval.specs.Machines.{machine_of}
 use Rattle.c_eval.specs.Programs.{program_of}
 use Rattle.c_eval.specs.Running.{move_run}
 use Rattle.c_eval.specs.Views.{move_of}
+use Rattle.c_eval.proofs.Runs.{over_leads_none}
 use Rattle.c_eval.proofs.Settling.{answered_next, answered_less, unanswered, broken_off}
 use Rattle.c_eval.proofs.machine.Machine.go_on.Goals as goal
+
+pub answers-init : goal.answers-init
+answers-init g c = (
+  over_leads_none (move_run (program_of c.args.source.now) (move_of c.args.first (machine_of c.args.self.now))) (g.H.Host.world c.args.host.now),
+  refl,
+  λ sure. sure,
+)
 
 pub answers-preserved : goal.answers-preserved
 answers-preserved g c = (

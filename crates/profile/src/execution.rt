@@ -24,7 +24,7 @@ use ib_run::{Stack, result_of};
 use std::alloc::{AllocError, Global};
 use std::marker::Model;
 use std::mem;
-use tac_core::{End, TacOp, TacProgram};
+use tac_core::{End, TacOp, TacProgram, number_at};
 
 /// A program that runs.
 #[derive(Drop)]
@@ -44,17 +44,14 @@ impl<'a> Model for Execution<'a> {
 }
 
 impl<'a> Execution<'a> {
-    /// The program as it begins: `main` in its first block, and the image in the memory. A `main` beyond all numbers of
-    /// functions is refused as want of memory is.
+    /// The program as it begins: `main` in its first block, and the image in the memory.
     pub(crate) fn start(alloc: Global, tac: &'a TacProgram) -> Result<Execution<'a>, AllocError>
         ensures program { IfOk result (λ run. run.program ≡ tac.now) }
         ensures state { IfOk result (λ run. state_of run ≡ start_of tac.now) }
         ensures sound { IfOk result IsSound }
         ensures main { IfOk result (λ run. run.here.func ≡ main_of tac.now) }
     {
-        let Ok(main) = u32::try_from(tac.main()) else {
-            return Err(AllocError);
-        };
+        let main = number_at(tac.main())?;
         let func = func_at(tac, main);
         let base = first_frame(tac.image().len());
         let regs = zeros(alloc, func.regs)?;

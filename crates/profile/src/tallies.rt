@@ -8,7 +8,7 @@ ghost use Rattle.profile.specs.Tallies.{AreTallies, targets, untaken, edges_from
 use sqlite_items::Items;
 use std::alloc::{AllocError, Global};
 use std::marker::Model;
-use tac_core::{Counts, Edge, End, FuncCounts, TacFunc, TacProgram, find_edge};
+use tac_core::{Counts, Edge, End, FuncCounts, TacFunc, TacProgram, find_edge, number_at};
 
 /// The last value of a count.
 const MOST: u64 = 9_223_372_036_854_775_807;
@@ -68,15 +68,13 @@ fn push_edges(edges: &mut Items<Edge>, from: u32, end: &End) -> Result<(), Alloc
     }
 }
 
-/// All edges of a function. A block beyond all labels is refused as want of memory is.
+/// All edges of a function.
 fn all_edges(alloc: Global, func: &TacFunc) -> Result<Items<Edge>, AllocError>
     ensures { IfOk result (λ edges. edges ≡ edges_from 0 func.now.blocks) }
 {
     let mut edges = Items::new(alloc);
     for (i, block) in func.blocks.as_slice().iter().enumerate() {
-        let Ok(from) = u32::try_from(i) else {
-            return Err(AllocError);
-        };
+        let from = number_at(i)?;
         push_edges(&mut edges, from, &block.end)?;
     }
     Ok(edges)

@@ -2,19 +2,17 @@ ghost use Rattle.std.specs.Prelude.{◌≡◌, IfOk, length, slice_get};
 ghost use Rattle.tac_core.specs.Cover.{upto, own_labels, origin_of, origins_through, all_through};
 
 use crate::code::TacFunc;
+use crate::index::number_at;
 use sqlite_items::Items;
 use std::alloc::{AllocError, Global};
 
-/// The labels of so many blocks. More than labels can name are refused as want of memory is.
+/// The labels of so many blocks.
 fn labels(alloc: Global, count: usize) -> Result<Items<u32>, AllocError>
     ensures { IfOk result (λ list. list ≡ upto count) }
 {
-    let Ok(count) = u32::try_from(count) else {
-        return Err(AllocError);
-    };
     let mut list = Items::new(alloc);
     for label in 0..count {
-        list.push(label)?;
+        list.push(number_at(label)?)?;
     }
     Ok(list)
 }

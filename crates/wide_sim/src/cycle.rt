@@ -75,6 +75,9 @@ pub(crate) fn do_word<'a, H: Host>(
             write_effects(values, memory, effects);
             Ok(next)
         }
-        Err(error) => Err(SimErr::from(error)),
+        Err(error) => {
+            drop(next);
+            Err(SimErr::from(error))
+        }
     }
 }

@@ -1,5 +1,6 @@
 use ib_base::{FaultKind, HostErr, Place};
 use std::alloc::AllocError;
+use thiserror::Error;
 
 /// What a cycle leaves: the machine goes on, has ended with a result, or has reported a fault.
 #[derive(Clone, Copy, PartialEq, Eq, Debug)]
@@ -26,9 +27,11 @@ pub enum SimOutcome {
 }
 
 /// Why a cycle was not done.
-#[derive(Clone, Copy, PartialEq, Eq, Debug)]
+#[derive(Clone, Copy, PartialEq, Eq, Debug, Error)]
 pub enum SimErr {
+    #[error("the system failed while the machine ran")]
     HostFailed,
+    #[error("there is not enough memory to run the machine")]
     NoMemory,
 }
 

@@ -66,11 +66,11 @@ impl<'a, M: Machine> Sim<'a, M> {
         let main = &funcs[func];
         let image = raw.image.as_slice();
         let base = first_base(image);
-        let call = fresh(alloc, M::REGS, main, func, base)?;
+        let plan = room_for_effects(alloc)?;
+        let callers = Callers::new(alloc)?;
         let mut memory = first_memory(alloc, image)?;
         memory.clear(base, main.frame);
-        let callers = Callers::new(alloc)?;
-        let plan = room_for_effects(alloc)?;
+        let call = fresh(alloc, M::REGS, main, func, base)?;
         Ok(Sim {
             alloc,
             code,

@@ -167,6 +167,7 @@ fn step_param(head: Head, token: &Token) -> Option<State>
     if is(Mark::RightParen, token) {
         return Some(State::ParamsDone(head));
     }
+    drop(head);
     None
 }
 
@@ -189,7 +190,7 @@ fn sized_declarator(
         length,
     };
     if is(Mark::Assign, token) {
-        return Ok(Some(State::InitOpen(made)));
+        return Ok(Some(State::InitOpen(Box::new(alloc, made)?)));
     }
     let declaring = with_init(made, Init::Nothing)?;
     step_declared(alloc, declaring, token)
@@ -399,8 +400,8 @@ pub fn step_named(
 }
 
 /// Behind the `=` of a declarator.
-pub fn step_init(alloc: Global, made: Made, token: &Token) -> Result<Option<State>, AllocError>
-    ensures { IfOk result (λ next. IsNext next (M.step (M.init_open (made_of made)) token.now)) }
+pub fn step_init(alloc: Global, made: Box<Made>, token: &Token) -> Result<Option<State>, AllocError>
+    ensures { IfOk result (λ next. IsNext next (M.step (M.init_open (made_of made.value)) token.now)) }
 {
     if is(Mark::LeftBrace, token) {
         let front: Vec<Expr> = Vec::new(alloc);
@@ -414,14 +415,14 @@ pub fn step_init(alloc: Global, made: Made, token: &Token) -> Result<Option<Stat
 /// Behind a comma of an initialiser's list.
 pub fn step_element(
     alloc: Global,
-    made: Made,
+    made: Box<Made>,
     front: Vec<Expr>,
     token: &Token,
 ) -> Result<Option<State>, AllocError>
-    ensures { IfOk result (λ next. IsNext next (M.step (M.element_next (made_of made) (map expr_of front.items)) token.now)) }
+    ensures { IfOk result (λ next. IsNext next (M.step (M.element_next (made_of made.value) (map expr_of front.items)) token.now)) }
 {
     if is(Mark::RightBrace, token) {
-        return Ok(Some(State::Declared(with_init(made, Init::List(front))?)));
+        return Ok(Some(State::Declared(with_init(Box::into_inner(made), Init::List(front))?)));
     }
     let element = begins_assign(outermost(alloc, Goal::Element(made, front))?)?;
     begin(alloc, true, element, token)
@@ -458,6 +459,7 @@ pub fn step_params_done(
         let stmts: Vec<Stmt> = Vec::new(alloc);
         return Ok(Some(State::Inside(Inside::Body(Box::new(alloc, head)?, stmts))));
     }
+    drop(head);
     Ok(None)
 }
 

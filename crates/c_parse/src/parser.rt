@@ -49,11 +49,12 @@ fn step_params_void(head: Head, token: &Token) -> Option<State>
     if is(Mark::RightParen, token) {
         return Some(State::ParamsDone(head));
     }
+    drop(head);
     None
 }
 
-fn step_semi(stmt: Stmt, outer: Outer, token: &Token) -> Option<State>
-    ensures { IsNext result (M.step (M.semi (stmt_of stmt) (outer_of outer)) token.now) }
+fn step_semi(stmt: Box<Stmt>, outer: Outer, token: &Token) -> Option<State>
+    ensures { IsNext result (M.step (M.semi (stmt_of stmt.value) (outer_of outer)) token.now) }
 {
     if is(Mark::Semicolon, token) {
         return Some(State::After(stmt, outer));

@@ -59,12 +59,12 @@ fn closer(role: &Role) -> Mark
     }
 }
 
-fn statement(place: Place, part: Part) -> Stmt
-    ensures { stmt_of result ≡ M.statement place (part_of part) }
+fn statement(alloc: Global, place: Place, part: Part) -> Result<Box<Stmt>, AllocError>
+    ensures { IfOk result (λ made. stmt_of made.value ≡ M.statement place (part_of part)) }
 {
     match part {
-        Part::Missing => Stmt::Empty { place },
-        Part::Given(expr) => Stmt::Expr { place, expr },
+        Part::Missing => nodes::boxed_stmt(alloc, Stmt::Empty { place }),
+        Part::Given(expr) => nodes::boxed_stmt(alloc, Stmt::Expr { place, expr }),
     }
 }
 
@@ -80,12 +80,18 @@ fn for_body(
     Ok(State::Stmt(within(outer, Arm::For(place, start, test, next))?))
 }
 
-fn goes_on(role: Role, part: Part) -> Result<State, AllocError>
+fn goes_on(alloc: Global, role: Role, part: Part) -> Result<State, AllocError>
     ensures { IfOk result (λ next. state_of next ≡ M.goes_on (role_of role) (part_of part)) }
 {
     match role {
-        Role::Statement(place, outer) => Ok(State::After(statement(place, part), outer)),
-        Role::Value(place, outer) => Ok(State::After(Stmt::Return { place, value: part }, outer)),
+        Role::Statement(place, outer) => {
+            let made = statement(alloc, place, part)?;
+            Ok(State::After(made, outer))
+        }
+        Role::Value(place, outer) => {
+            let made = nodes::boxed_stmt(alloc, Stmt::Return { place, value: part })?;
+            Ok(State::After(made, outer))
+        }
         Role::First(place, outer) => Ok(State::Awaits(Role::Second(
             place,
             ForStart::Expr(part),
@@ -99,18 +105,24 @@ fn goes_on(role: Role, part: Part) -> Result<State, AllocError>
 }
 
 /// Behind an expression that may be missing.
-pub fn end_part(role: Role, expr: Expr, token: &Token) -> Result<Turn, AllocError>
-    ensures { IfOk result (λ turn. IsTurn turn (expr_of expr) (M.part (role_of role)) token.now) }
+pub fn end_part(
+    alloc: Global,
+    role: Role,
+    expr: Box<Expr>,
+    token: &Token,
+) -> Result<Turn, AllocError>
+    ensures { IfOk result (λ turn. IsTurn turn (expr_of expr.value) (M.part (role_of role)) token.now) }
 {
     if is(closer(&role), token) {
-        return Ok(Turn::Next(goes_on(role, Part::Given(expr))?));
+        let part = Part::Given(Box::into_inner(expr));
+        return Ok(Turn::Next(goes_on(alloc, role, part)?));
     }
     drop(role);
     Ok(Turn::Stop)
 }
 
-fn passed(alloc: Global, test: Test, expr: Expr) -> Result<State, AllocError>
-    ensures { IfOk result (λ next. state_of next ≡ M.passed (test_of test) (expr_of expr)) }
+fn passed(alloc: Global, test: Test, expr: Box<Expr>) -> Result<State, AllocError>
+    ensures { IfOk result (λ next. state_of next ≡ M.passed (test_of test) (expr_of expr.value)) }
 {
     match test {
         Test::If(place, outer) => {
@@ -129,8 +141,13 @@ fn passed(alloc: Global, test: Test, expr: Expr) -> Result<State, AllocError>
 }
 
 /// Behind an expression in the parentheses of a statement.
-pub fn end_test(alloc: Global, test: Test, expr: Expr, token: &Token) -> Result<Turn, AllocError>
-    ensures { IfOk result (λ turn. IsTurn turn (expr_of expr) (M.tested (test_of test)) token.now) }
+pub fn end_test(
+    alloc: Global,
+    test: Test,
+    expr: Box<Expr>,
+    token: &Token,
+) -> Result<Turn, AllocError>
+    ensures { IfOk result (λ turn. IsTurn turn (expr_of expr.value) (M.tested (test_of test)) token.now) }
 {
     if is(Mark::RightParen, token) {
         return Ok(Turn::Next(passed(alloc, test, expr)?));
@@ -144,7 +161,7 @@ pub fn step_awaits(alloc: Global, role: Role, token: &Token) -> Result<Option<St
     ensures { IfOk result (λ next. IsNext next (M.step_awaits (role_of role) token.now)) }
 {
     if is(closer(&role), token) {
-        return Ok(Some(goes_on(role, Part::Missing)?));
+        return Ok(Some(goes_on(alloc, role, Part::Missing)?));
     }
     begin_expr(alloc, outermost(alloc, Goal::Part(role))?, token)
 }
@@ -204,6 +221,14 @@ pub fn begin_stmt(alloc: Global, outer: Outer, token: &Token) -> Result<Option<S
     }
 }
 
+/// A statement that lacks its `;` alone.
+fn semi(alloc: Global, stmt: Stmt, outer: Outer) -> Result<Option<State>, AllocError>
+    ensures { IfOk result (λ next. IsNext next (Some (M.semi (stmt_of stmt) (outer_of outer)))) }
+{
+    let stmt = nodes::boxed_stmt(alloc, stmt)?;
+    Ok(Some(State::Semi(stmt, outer)))
+}
+
 fn begin_stmt_word(
     alloc: Global,
     word: Keyword,
@@ -221,18 +246,21 @@ fn begin_stmt_word(
             Ok(Some(State::Stmt(outer)))
         }
         Keyword::For => Ok(Some(State::ForOpen(place, outer))),
-        Keyword::Break => Ok(Some(State::Semi(Stmt::Break { place }, outer))),
-        Keyword::Continue => Ok(Some(State::Semi(Stmt::Continue { place }, outer))),
+        Keyword::Break => semi(alloc, Stmt::Break { place }, outer),
+        Keyword::Continue => semi(alloc, Stmt::Continue { place }, outer),
         Keyword::Return => Ok(Some(State::Awaits(Role::Value(place, outer)))),
         _ => begin_other(alloc, outer, token),
     }
 }
 
-fn close(inside: Inside) -> Result<State, AllocError>
+fn close(alloc: Global, inside: Inside) -> Result<State, AllocError>
     ensures { IfOk result (λ next. state_of next ≡ M.close (inside_of inside)) }
 {
     match inside {
-        Inside::Braces(place, front, outer) => Ok(State::After(nodes::block(place, front), outer)),
+        Inside::Braces(place, front, outer) => {
+            let made = nodes::block(alloc, place, front)?;
+            Ok(State::After(made, outer))
+        }
         Inside::Body(head, body) => {
             let Head { front, head } = Box::into_inner(head);
             let mut front = front;
@@ -263,7 +291,7 @@ pub fn step_inside(
     ensures { IfOk result (λ next. IsNext next (M.step_inside (inside_of inside) token.now)) }
 {
     if is(Mark::RightBrace, token) {
-        return Ok(Some(close(inside)?));
+        return Ok(Some(close(alloc, inside)?));
     }
     if is_type(token) {
         let why = declares(alloc, Target::Block(token.place, inside))?;
@@ -276,12 +304,12 @@ pub fn step_inside(
 fn settle_in(
     alloc: Global,
     inside: Inside,
-    stmt: Stmt,
+    stmt: Box<Stmt>,
     token: &Token,
 ) -> Result<Settling, AllocError>
-    ensures { IfOk result (λ settling. IsSettling settling (stmt_of stmt) (M.outer_of (inside_of inside)) token.now) }
+    ensures { IfOk result (λ settling. IsSettling settling (stmt_of stmt.value) (M.outer_of (inside_of inside)) token.now) }
 {
-    let inside = with_stmt(inside, stmt)?;
+    let inside = with_stmt(inside, Box::into_inner(stmt))?;
     match step_inside(alloc, inside, token)? {
         Some(next) => Ok(Settling::Next(next)),
         None => Ok(Settling::Stop),
@@ -291,12 +319,12 @@ fn settle_in(
 fn settle_then(
     alloc: Global,
     place: Place,
-    test: Expr,
+    test: Box<Expr>,
     outer: Outer,
-    stmt: Stmt,
+    stmt: Box<Stmt>,
     token: &Token,
 ) -> Result<Settling, AllocError>
-    ensures { IfOk result (λ settling. IsSettling settling (stmt_of stmt) (M.then_arm place (expr_of test) (outer_of outer)) token.now) }
+    ensures { IfOk result (λ settling. IsSettling settling (stmt_of stmt.value) (M.then_arm place (expr_of test.value) (outer_of outer)) token.now) }
 {
     if says(Keyword::Else, token) {
         let outer = within(outer, Arm::Else(place, test, stmt))?;
@@ -305,8 +333,8 @@ fn settle_then(
     Ok(Settling::Falls(nodes::if_then(alloc, place, test, stmt)?, outer))
 }
 
-fn settle_do(place: Place, outer: Outer, stmt: Stmt, token: &Token) -> Settling
-    ensures { IsSettling result (stmt_of stmt) (M.do_body place (outer_of outer)) token.now }
+fn settle_do(place: Place, outer: Outer, stmt: Box<Stmt>, token: &Token) -> Settling
+    ensures { IsSettling result (stmt_of stmt.value) (M.do_body place (outer_of outer)) token.now }
 {
     if says(Keyword::While, token) {
         return Settling::Next(State::Test(Test::Do(place, stmt, outer)));
@@ -317,12 +345,12 @@ fn settle_do(place: Place, outer: Outer, stmt: Stmt, token: &Token) -> Settling
 /// What a statement does with its part that is complete, before the token.
 fn settle_arm(
     alloc: Global,
-    stmt: Stmt,
+    stmt: Box<Stmt>,
     arm: Arm,
     around: Outer,
     token: &Token,
 ) -> Result<Settling, AllocError>
-    ensures { IfOk result (λ settling. IsSettling settling (stmt_of stmt) (arm_of arm (outer_of around)) token.now) }
+    ensures { IfOk result (λ settling. IsSettling settling (stmt_of stmt.value) (arm_of arm (outer_of around)) token.now) }
 {
     match arm {
         Arm::Braces(place, front) => settle_in(
@@ -350,8 +378,13 @@ fn settle_arm(
     }
 }
 
-fn settling(alloc: Global, stmt: Stmt, outer: Outer, token: &Token) -> Result<Settling, AllocError>
-    ensures { IfOk result (λ settling. IsSettling settling (stmt_of stmt) (outer_of outer) token.now) }
+fn settling(
+    alloc: Global,
+    stmt: Box<Stmt>,
+    outer: Outer,
+    token: &Token,
+) -> Result<Settling, AllocError>
+    ensures { IfOk result (λ settling. IsSettling settling (stmt_of stmt.value) (outer_of outer) token.now) }
 {
     match innermost(outer) {
         Innermost::Body(head, front) => settle_in(alloc, Inside::Body(head, front), stmt, token),
@@ -362,11 +395,11 @@ fn settling(alloc: Global, stmt: Stmt, outer: Outer, token: &Token) -> Result<Se
 /// A statement is complete, and the token follows: statements that cannot take it end one after the other.
 pub fn settle(
     alloc: Global,
-    stmt: Stmt,
+    stmt: Box<Stmt>,
     outer: Outer,
     token: &Token,
 ) -> Result<Option<State>, AllocError>
-    ensures { IfOk result (λ next. IsNext next (M.settle (stmt_of stmt) (outer_of outer) token.now)) }
+    ensures { IfOk result (λ next. IsNext next (M.settle (stmt_of stmt.value) (outer_of outer) token.now)) }
 {
     match settling(alloc, stmt, outer, token)? {
         Settling::Next(next) => Ok(Some(next)),

@@ -69,10 +69,10 @@ pub fn alone(alloc: Global, goal: Box<Goal>) -> Frames
 }
 
 /// The expressions with one more.
-pub fn pushed(front: Vec<Expr>, last: Expr) -> Result<Vec<Expr>, AllocError>
-    ensures { IfOk result (λ all. map expr_of all.items ≡ map expr_of front.items ++ expr_of last ∷ []) }
+pub fn pushed(front: Vec<Expr>, last: Box<Expr>) -> Result<Vec<Expr>, AllocError>
+    ensures { IfOk result (λ all. map expr_of all.items ≡ map expr_of front.items ++ expr_of last.value ∷ []) }
 {
     let mut front = front;
-    front.push(last)?;
+    front.push(Box::into_inner(last))?;
     Ok(front)
 }

@@ -1,163 +1,19 @@
-//! Where an operand begins, and what follows one.
+//! What follows an operand.
 
-ghost use Rattle.std.specs.Prelude.{◌≡◌, ◌++◌, ◌∷◌, [], IfOk, map, Some};
-ghost use Rattle.c_ast.specs.Trees.{name, call, exps};
+ghost use Rattle.std.specs.Prelude.{◌≡◌, IfOk, map};
 ghost use Rattle.c_ast.specs.TreeViews.{type_of, expr_of};
 ghost use Rattle.c_parse_machine.specs.Machine as M;
-ghost use Rattle.c_parse_states.specs.Views.{made_of, goal_of, frame_of, frames_of, declaring_of, IsNext, IsTurn};
+ghost use Rattle.c_parse_states.specs.Views.{frame_of, frames_of, IsNext, IsTurn};
 
-use crate::declarations::{begin_type, step_declared, with_init};
-use crate::statements::{end_part, end_test};
-use c_ast::{AssignOp, BinaryOp, Expr, Init, Keyword, Mark, Tok, Token};
-use c_parse_states::frames::{Frame, Frames, Goal, Inner, Made, State, Turn, Use};
+use crate::goals::reach;
+use c_ast::{AssignOp, BinaryOp, Expr, Mark, Token};
+use c_parse_states::frames::{Frame, Frames, Inner, State, Turn};
 use c_parse_states::nodes;
-use c_parse_states::signs::{
-    assign_op, binary_op, is, is_type, level, postfix_op, prefix_op, step_op,
-};
-use c_parse_states::stacks::{alone, inner, pushed, under};
+use c_parse_states::signs::{assign_op, binary_op, is, level, postfix_op};
+use c_parse_states::stacks::{inner, pushed, under};
+use c_parse_steps::operands::{begin, begins_assign, begins_expr};
 use ib_base::{Place, Text};
 use std::alloc::{AllocError, Global};
-
-pub fn begins_assign(frames: Frames) -> Result<Frames, AllocError>
-    ensures { IfOk result (λ made. frames_of made ≡ M.begins_assign (frames_of frames)) }
-{
-    under(frames, Frame::Cond(true))
-}
-
-pub fn begins_expr(frames: Frames) -> Result<Frames, AllocError>
-    ensures { IfOk result (λ made. frames_of made ≡ M.begins_expr (frames_of frames)) }
-{
-    begins_assign(under(frames, Frame::First)?)
-}
-
-fn shut_frame(frame: Frame) -> Frame
-    ensures { (σ : M.Frames) → frame_of result σ ≡ M.shut (frame_of frame σ) }
-{
-    match frame {
-        Frame::Cond(_) => Frame::Cond(false),
-        Frame::Prefix(place, op) => Frame::Prefix(place, op),
-        Frame::CastTo(place, to) => Frame::CastTo(place, to),
-        Frame::Right(place, op, left) => Frame::Right(place, op, left),
-        Frame::Assigned(place, op, target) => Frame::Assigned(place, op, target),
-        Frame::Middle(place, test) => Frame::Middle(place, test),
-        Frame::Other(place, test, then) => Frame::Other(place, test, then),
-        Frame::First => Frame::First,
-        Frame::List(place, front) => Frame::List(place, front),
-        Frame::Parens => Frame::Parens,
-        Frame::Subscript(place, base) => Frame::Subscript(place, base),
-        Frame::Arg(place, name, front) => Frame::Arg(place, name, front),
-    }
-}
-
-/// What begins with a cast is the left side of no assignment.
-#[tactic(auto, using(crate::proofs::GoalLemmas::shut_goal))]
-fn shut(alloc: Global, frames: Frames) -> Result<Frames, AllocError>
-    ensures { IfOk result (λ made. frames_of made ≡ M.shut (frames_of frames)) }
-{
-    match inner(frames) {
-        Inner::Frame(frame, outer) => under(outer, shut_frame(frame)),
-        Inner::Goal(goal) => Ok(alone(alloc, goal)),
-    }
-}
-
-/// A leaf is an operand.
-fn have(alloc: Global, leaf: Expr, frames: Frames) -> Result<Option<State>, AllocError>
-    ensures { IfOk result (λ next. IsNext next (Some (M.have (expr_of leaf) (frames_of frames)))) }
-{
-    let leaf = nodes::boxed(alloc, leaf)?;
-    Ok(Some(State::Have(leaf, frames)))
-}
-
-fn begin_word(
-    alloc: Global,
-    word: Keyword,
-    place: Place,
-    frames: Frames,
-) -> Result<Option<State>, AllocError>
-    ensures { IfOk result (λ next. IsNext next (M.begin_word word place (frames_of frames))) }
-{
-    match word {
-        Keyword::Null => have(alloc, Expr::Null { place }, frames),
-        Keyword::Eof => have(alloc, Expr::Eof { place }, frames),
-        _ => Ok(None),
-    }
-}
-
-fn begin_leaf(alloc: Global, token: &Token, frames: Frames) -> Result<Option<State>, AllocError>
-    ensures { IfOk result (λ next. IsNext next (M.begin_leaf token.now.kind token.now.place (frames_of frames))) }
-{
-    let place = token.place;
-    match &token.kind {
-        Tok::Name(name) => {
-            let name = name.copy(alloc)?;
-            Ok(Some(State::Called(place, name, frames)))
-        }
-        Tok::Number { value, long } => {
-            let (value, long) = (*value, *long);
-            have(alloc, Expr::Number { place, value, long }, frames)
-        }
-        Tok::Char(value) => {
-            let value = *value;
-            have(alloc, Expr::Char { place, value }, frames)
-        }
-        Tok::Str(bytes) => {
-            let bytes = bytes.copy(alloc)?;
-            have(alloc, Expr::Str { place, bytes }, frames)
-        }
-        Tok::Word(word) => begin_word(alloc, *word, place, frames),
-        Tok::Mark(_) => Ok(None),
-        Tok::Reserved(_) => Ok(None),
-    }
-}
-
-/// An operand begins with the token; `casts` says whether it may be a cast.
-pub fn begin(
-    alloc: Global,
-    casts: bool,
-    frames: Frames,
-    token: &Token,
-) -> Result<Option<State>, AllocError>
-    ensures { IfOk result (λ next. IsNext next (M.begin casts (frames_of frames) token.now)) }
-{
-    if is(Mark::LeftParen, token) {
-        return Ok(Some(State::Paren(casts, token.place, frames)));
-    }
-    if let Some(op) = step_op(token) {
-        let frames = under(frames, Frame::Prefix(token.place, op))?;
-        return Ok(Some(State::Operand(false, frames)));
-    }
-    if let Some(op) = prefix_op(token) {
-        let frames = under(frames, Frame::Prefix(token.place, op))?;
-        return Ok(Some(State::Operand(true, frames)));
-    }
-    begin_leaf(alloc, token, frames)
-}
-
-/// An expression begins with the token.
-pub fn begin_expr(alloc: Global, frames: Frames, token: &Token) -> Result<Option<State>, AllocError>
-    ensures { IfOk result (λ next. IsNext next (M.begin_expr (frames_of frames) token.now)) }
-{
-    let frames = begins_expr(frames)?;
-    begin(alloc, true, frames, token)
-}
-
-/// Behind a `(`.
-pub fn step_paren(
-    alloc: Global,
-    casts: bool,
-    place: Place,
-    frames: Frames,
-    token: &Token,
-) -> Result<Option<State>, AllocError>
-    ensures { IfOk result (λ next. IsNext next (M.step (M.paren casts place (frames_of frames)) token.now)) }
-{
-    if casts && is_type(token) {
-        let frames = shut(alloc, frames)?;
-        return Ok(begin_type(Use::Cast(place, frames), token));
-    }
-    let parens = under(frames, Frame::Parens)?;
-    begin_expr(alloc, parens, token)
-}
 
 fn assign_if(opens: bool, token: &Token) -> Option<AssignOp>
     ensures { result ≡ M.assign_if opens token.now }
@@ -178,26 +34,6 @@ fn if_tighter(op: BinaryOp, found: Option<BinaryOp>) -> Option<BinaryOp>
         }
         None => None,
     }
-}
-
-fn after_element(
-    made: Box<Made>,
-    front: Vec<Expr>,
-    operand: Box<Expr>,
-    token: &Token,
-) -> Result<Turn, AllocError>
-    ensures { IfOk result (λ turn. IsTurn turn (expr_of operand.value) (M.element (made_of made.value) (map expr_of front.items)) token.now) }
-{
-    if is(Mark::Comma, token) {
-        let front = pushed(front, operand)?;
-        return Ok(Turn::Next(State::ElementNext(made, front)));
-    }
-    if is(Mark::RightBrace, token) {
-        let front = pushed(front, operand)?;
-        let declaring = with_init(Box::into_inner(made), Init::List(front))?;
-        return Ok(Turn::Next(State::Declared(declaring)));
-    }
-    Ok(Turn::Stop)
 }
 
 fn after_cond(
@@ -341,33 +177,6 @@ fn after_arg(
         return Ok(Turn::Next(State::Have(call, outer)));
     }
     Ok(Turn::Stop)
-}
-
-fn after_init(
-    alloc: Global,
-    made: Box<Made>,
-    operand: Box<Expr>,
-    token: &Token,
-) -> Result<Turn, AllocError>
-    ensures { IfOk result (λ turn. IsTurn turn (expr_of operand.value) (M.init_value (made_of made.value)) token.now) }
-{
-    let declaring = with_init(Box::into_inner(made), Init::Value(Box::into_inner(operand)))?;
-    match step_declared(alloc, declaring, token)? {
-        Some(next) => Ok(Turn::Next(next)),
-        None => Ok(Turn::Stop),
-    }
-}
-
-/// What the outermost expression is for, with an operand that is complete, before the token.
-fn reach(alloc: Global, operand: Box<Expr>, goal: Goal, token: &Token) -> Result<Turn, AllocError>
-    ensures { IfOk result (λ turn. IsTurn turn (expr_of operand.value) (goal_of goal) token.now) }
-{
-    match goal {
-        Goal::Part(role) => end_part(alloc, role, operand, token),
-        Goal::Tested(test) => end_test(alloc, test, operand, token),
-        Goal::InitValue(made) => after_init(alloc, made, operand, token),
-        Goal::Element(made, front) => after_element(made, front, operand, token),
-    }
 }
 
 /// What a frame does with an operand that is complete, before the token.

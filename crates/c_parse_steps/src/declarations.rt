@@ -6,7 +6,7 @@ ghost use Rattle.c_ast.specs.TreeViews.{type_of, expr_of, init_of, decl_of, para
 ghost use Rattle.c_parse_machine.specs.Machine as M;
 ghost use Rattle.c_parse_states.specs.Views.{head_of, target_of, declaring_of, made_of, use_of, sizing_of, frames_of, state_of, IsNext};
 
-use crate::expressions::{begin, begins_assign};
+use crate::operands::{begin, begins_assign};
 use crate::statements::with_local;
 use c_ast::{
     Base, CType, Declarator, Expr, ForStart, FunctionHead, Init, Item, Keyword, Length, Mark,
@@ -256,6 +256,17 @@ pub fn step_size_open(sizing: Sizing, token: &Token) -> Option<State>
     }
 }
 
+/// Behind the number in such brackets.
+pub fn step_size_given(sizing: Sizing, length: Length, token: &Token) -> Option<State>
+    ensures { IsNext result (M.step (M.size_given (sizing_of sizing) length) token.now) }
+{
+    if is(Mark::RightBracket, token) {
+        return Some(State::Sized(sizing, length));
+    }
+    drop(sizing);
+    None
+}
+
 fn type_of_param(
     alloc: Global,
     place: Place,
@@ -439,6 +450,17 @@ pub fn step_params_open(head: Head, token: &Token) -> Option<State>
         return Some(State::ParamsVoid(head));
     }
     begin_type(Use::Parameter(token.place, head), token)
+}
+
+/// Behind the `void` of a function without parameters.
+pub fn step_params_void(head: Head, token: &Token) -> Option<State>
+    ensures { IsNext result (M.step (M.params_void (head_of head)) token.now) }
+{
+    if is(Mark::RightParen, token) {
+        return Some(State::ParamsDone(head));
+    }
+    drop(head);
+    None
 }
 
 /// Behind the `)` of a function's parameters.

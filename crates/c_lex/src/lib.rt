@@ -9,8 +9,6 @@ mod lexer;
 mod number;
 mod quoted;
 mod source;
-#[cfg(test)]
-mod tests;
 mod words;
 
 pub use error::LexErr;

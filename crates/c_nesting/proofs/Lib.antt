@@ -1,1 +1,2 @@
+mod GrowthLemmas
 mod NestingLemmas

@@ -2,7 +2,7 @@
 
 ghost use Rattle.std.specs.Prelude.{◌≡◌, ◌+◌, ◌<◌, length, drop, IfOk};
 ghost use Rattle.c_ast.specs.Nesting as N;
-ghost use Rattle.c_nesting.specs.NestingViews.{count_of, counts_of, next_in, popped};
+ghost use Rattle.c_nesting.specs.NestingViews.{count_of, counts_of, next_in, popped, IsWithin, AreWithin, most_grown};
 
 use c_ast::{Keyword, Mark, Tok, Token};
 use ib_base::Place;
@@ -52,34 +52,17 @@ fn next_kind(kind: &Tok) -> Next
     }
 }
 
-/// One more. No list of tokens is so long that this fails.
-fn one_more(count: usize) -> Result<usize, AllocError>
-    ensures { IfOk result (λ n. n ≡ count + 1) }
+fn added(count: Count) -> Count
+    requires { IsWithin most_grown (count_of count) }
+    ensures { count_of result ≡ N.added (count_of count) }
 {
-    match count.checked_add(1) {
-        Some(n) => Ok(n),
-        None => Err(AllocError),
+    Count {
+        count: count.count + 1,
+        base: count.base,
+        floor: count.floor,
+        dos: count.dos,
+        headed: count.headed,
     }
-}
-
-fn added(count: Count) -> Result<Count, AllocError>
-    ensures { IfOk result (λ made. count_of made ≡ N.added (count_of count)) }
-{
-    let Count {
-        count,
-        base,
-        floor,
-        dos,
-        headed,
-    } = count;
-    let count = one_more(count)?;
-    Ok(Count {
-        count,
-        base,
-        floor,
-        dos,
-        headed,
-    })
 }
 
 fn to_base(count: Count) -> Count
@@ -107,31 +90,32 @@ fn to_floor(count: Count) -> Count
 }
 
 /// What `if`, `while` and `for` do.
-fn headed_by(count: Count) -> Result<Count, AllocError>
-    ensures { IfOk result (λ made. count_of made ≡ N.headed_by (count_of count)) }
+fn headed_by(count: Count) -> Count
+    requires { IsWithin most_grown (count_of count) }
+    ensures { count_of result ≡ N.headed_by (count_of count) }
 {
-    let more = one_more(count.count)?;
-    Ok(Count {
+    let more = count.count + 1;
+    Count {
         count: more,
         base: count.base,
         floor: more,
         dos: count.dos,
         headed: count.headed,
-    })
+    }
 }
 
-fn opened_do(count: Count) -> Result<Count, AllocError>
-    ensures { IfOk result (λ made. count_of made ≡ N.opened_do (count_of count)) }
+fn opened_do(count: Count) -> Count
+    requires { IsWithin most_grown (count_of count) }
+    ensures { count_of result ≡ N.opened_do (count_of count) }
 {
-    let more = one_more(count.count)?;
-    let dos = one_more(count.dos)?;
-    Ok(Count {
+    let more = count.count + 1;
+    Count {
         count: more,
         base: count.base,
         floor: more,
-        dos,
+        dos: count.dos + 1,
         headed: count.headed,
-    })
+    }
 }
 
 /// What `;` does.
@@ -158,10 +142,11 @@ fn ended(next: Next, count: Count) -> Count
 }
 
 fn push(alloc: Global, headed: bool, counts: Counts) -> Result<Counts, AllocError>
+    requires { AreWithin most_grown (counts_of counts) }
     ensures { IfOk result (λ made. counts_of made ≡ N.push headed (counts_of counts)) }
 {
     let Counts { top, below } = counts;
-    let count = one_more(top.count)?;
+    let count = top.count + 1;
     let below = Below::Over(top, Box::new(alloc, below)?);
     Ok(Counts {
         top: Count {
@@ -176,25 +161,22 @@ fn push(alloc: Global, headed: bool, counts: Counts) -> Result<Counts, AllocErro
 }
 
 /// `]` and `:`, which add one, and `)`, which adds one where no head has pushed what it pops.
-fn pop(counts: Counts, adds: bool) -> Result<Counts, AllocError>
-    ensures { IfOk result (λ made. counts_of made ≡ popped adds (counts_of counts)) }
+fn pop(counts: Counts, adds: bool) -> Counts
+    requires { AreWithin most_grown (counts_of counts) }
+    ensures { counts_of result ≡ popped adds (counts_of counts) }
 {
     let Counts { top, below } = counts;
     match below {
-        Below::Bottom => Ok(Counts {
+        Below::Bottom => Counts {
             top,
             below: Below::Bottom,
-        }),
+        },
         Below::Over(new, rest) => {
-            let top = if adds || !top.headed {
-                added(new)?
-            } else {
-                new
-            };
-            Ok(Counts {
+            let top = if adds || !top.headed { added(new) } else { new };
+            Counts {
                 top,
                 below: Box::into_inner(rest),
-            })
+            }
         }
     }
 }
@@ -223,13 +205,14 @@ fn after_mark(
     next: Next,
     counts: Counts,
 ) -> Result<Counts, AllocError>
+    requires { AreWithin most_grown (counts_of counts) }
     ensures { IfOk result (λ made. counts_of made ≡ N.after_mark mark headed (next_in next) (counts_of counts)) }
 {
     match mark {
         Mark::LeftParen => push(alloc, headed, counts),
         Mark::LeftBracket | Mark::LeftBrace | Mark::Question => push(alloc, false, counts),
-        Mark::RightBracket | Mark::Colon => pop(counts, true),
-        Mark::RightParen => pop(counts, false),
+        Mark::RightBracket | Mark::Colon => Ok(pop(counts, true)),
+        Mark::RightParen => Ok(pop(counts, false)),
         Mark::RightBrace => Ok(pop_brace(counts, next)),
         Mark::Semicolon => {
             let Counts { top, below } = counts;
@@ -247,22 +230,25 @@ fn after_mark(
         }
         _ => {
             let Counts { top, below } = counts;
-            let top = added(top)?;
-            Ok(Counts { top, below })
+            Ok(Counts {
+                top: added(top),
+                below,
+            })
         }
     }
 }
 
-fn after_word(word: Keyword, counts: Counts) -> Result<Counts, AllocError>
-    ensures { IfOk result (λ made. counts_of made ≡ N.after_word word (counts_of counts)) }
+fn after_word(word: Keyword, counts: Counts) -> Counts
+    requires { AreWithin most_grown (counts_of counts) }
+    ensures { counts_of result ≡ N.after_word word (counts_of counts) }
 {
     let Counts { top, below } = counts;
     let top = match word {
-        Keyword::If | Keyword::While | Keyword::For => headed_by(top)?,
-        Keyword::Do => opened_do(top)?,
+        Keyword::If | Keyword::While | Keyword::For => headed_by(top),
+        Keyword::Do => opened_do(top),
         _ => top,
     };
-    Ok(Counts { top, below })
+    Counts { top, below }
 }
 
 /// The counts behind a token. `headed` says that a name, `if`, `while` or `for` stands directly before it.
@@ -273,11 +259,12 @@ fn after_kind(
     next: Next,
     counts: Counts,
 ) -> Result<Counts, AllocError>
+    requires { AreWithin most_grown (counts_of counts) }
     ensures { IfOk result (λ made. counts_of made ≡ N.after_kind kind.now headed (next_in next) (counts_of counts)) }
 {
     match kind {
         Tok::Mark(mark) => after_mark(alloc, *mark, headed, next, counts),
-        Tok::Word(word) => after_word(*word, counts),
+        Tok::Word(word) => Ok(after_word(*word, counts)),
         _ => Ok(counts),
     }
 }

@@ -1,2 +1,1 @@
-mod GoalLemmas
 mod RunLemmas

@@ -4,20 +4,19 @@ use Rattle.std.specs.Prelude.{Result, IfOk, IfErr}
 use Rattle.std.proofs.lemmas.List.{at_drop_more, at_drop_all, length-drop}
 use Rattle.c_ast.specs.declared.token.Token.{Token}
 use Rattle.c_ast.specs.declared.tree_unit.Unit as code
+use Rattle.c_ast.specs.Trees.{Top}
 use Rattle.c_ast.specs.TreeViews.{unit_of}
 use Rattle.c_ast.specs.Grammar.{IsUnit}
 use Rattle.c_ast.specs.Nesting as N
 use Rattle.c_parse.specs.declared.parser.ParseErr.{ParseErr}
 use Rattle.c_parse.specs.declared.parser.ParseErr.TheVariants.{TooDeep, Syntax, NoMemory}
 use Rattle.c_parse_machine.specs.Machine as M
-use Rattle.c_parse.specs.Parses.{Refuses}
+use Rattle.c_parse.specs.Parses.{Refuses, Answers}
 use Rattle.c_parse.specs.Ran.{Ran}
 use Rattle.c_parse_machine.proofs.Complete.{takes}
 use Rattle.c_parse_machine.proofs.Viable.{refuses}
 use Rattle.c_parse_machine.proofs.SoundStates.{sound}
-use Rattle.c_parse_machine.proofs.Answered as A
-use Rattle.c_parse_machine.proofs.Answered.{wrong_at}
-use Rattle.c_parse_machine.specs.Told.{HaveOneTree}
+use Rattle.c_parse_machine.proofs.Answered.{one_tree, wrong_at}
 
 one_token : (ts : List Token) (i : ℕ) (tok : Token) (s : M.State) → i < length ts → tok ≡ get_or ts i tok →
     M.run (drop i ts) s ≡ M.run (tok ∷ drop (i + 1) ts) s
@@ -54,6 +53,8 @@ says_why ts (Err (TooDeep place)) shallow h = absurd h
 says_why ts (Err (Syntax n)) shallow h = (shallow, wrong_at ts n h.0 h.1 h.2)
 says_why ts (Err NoMemory) shallow h = search rules
 
--- a token list has at most one tree
-pub one_tree : (ts : List Token) → HaveOneTree ts
-one_tree ts = A.one_tree ts
+pub answers : (ts : List Token) (r : Result code.Unit ParseErr) → Ran ts r → (unit : List Top) → IsUnit ts unit → Answers r unit
+answers ts (Ok found) h unit p = one_tree ts (unit_of found) unit (sound ts (unit_of found) h) p
+answers ts (Err (TooDeep place)) h unit p = absurd h
+answers ts (Err (Syntax n)) h unit p = (wrong_at ts n h.0 h.1 h.2).no_unit unit p
+answers ts (Err NoMemory) h unit p = tt

@@ -1,153 +1,19 @@
-//! Where an operand begins, and what follows one.
+//! What follows an operand.
 
-ghost use Rattle.std.specs.Prelude.{◌≡◌, ◌++◌, ◌∷◌, [], IfOk, map};
-ghost use Rattle.c_ast.specs.Trees.{name, call, exps};
+ghost use Rattle.std.specs.Prelude.{◌≡◌, IfOk, map};
 ghost use Rattle.c_ast.specs.TreeViews.{type_of, expr_of};
 ghost use Rattle.c_parse_machine.specs.Machine as M;
-ghost use Rattle.c_parse_states.specs.Views.{made_of, goal_of, frame_of, frames_of, declaring_of, IsNext, IsTurn};
+ghost use Rattle.c_parse_states.specs.Views.{frame_of, frames_of, IsNext, IsTurn};
 
-use crate::declarations::{begin_type, step_declared, with_init};
-use crate::statements::{end_part, end_test};
-use c_ast::{AssignOp, BinaryOp, Expr, Init, Keyword, Mark, Tok, Token};
-use c_parse_states::frames::{Frame, Frames, Goal, Inner, Made, State, Turn, Use};
+use crate::goals::reach;
+use c_ast::{AssignOp, BinaryOp, Expr, Mark, Token};
+use c_parse_states::frames::{Frame, Frames, Inner, State, Turn};
 use c_parse_states::nodes;
-use c_parse_states::signs::{
-    assign_op, binary_op, is, is_type, level, postfix_op, prefix_op, step_op,
-};
-use c_parse_states::stacks::{alone, inner, pushed, under};
+use c_parse_states::signs::{assign_op, binary_op, is, level, postfix_op};
+use c_parse_states::stacks::{inner, pushed, under};
+use c_parse_steps::operands::{begin, begins_assign, begins_expr};
 use ib_base::{Place, Text};
 use std::alloc::{AllocError, Global};
-
-pub fn begins_assign(frames: Frames) -> Result<Frames, AllocError>
-    ensures { IfOk result (λ made. frames_of made ≡ M.begins_assign (frames_of frames)) }
-{
-    under(frames, Frame::Cond(true))
-}
-
-pub fn begins_expr(frames: Frames) -> Result<Frames, AllocError>
-    ensures { IfOk result (λ made. frames_of made ≡ M.begins_expr (frames_of frames)) }
-{
-    begins_assign(under(frames, Frame::First)?)
-}
-
-fn shut_frame(frame: Frame) -> Frame
-    ensures { (σ : M.Frames) → frame_of result σ ≡ M.shut (frame_of frame σ) }
-{
-    match frame {
-        Frame::Cond(_) => Frame::Cond(false),
-        Frame::Prefix(place, op) => Frame::Prefix(place, op),
-        Frame::CastTo(place, to) => Frame::CastTo(place, to),
-        Frame::Right(place, op, left) => Frame::Right(place, op, left),
-        Frame::Assigned(place, op, target) => Frame::Assigned(place, op, target),
-        Frame::Middle(place, test) => Frame::Middle(place, test),
-        Frame::Other(place, test, then) => Frame::Other(place, test, then),
-        Frame::First => Frame::First,
-        Frame::List(place, front) => Frame::List(place, front),
-        Frame::Parens => Frame::Parens,
-        Frame::Subscript(place, base) => Frame::Subscript(place, base),
-        Frame::Arg(place, name, front) => Frame::Arg(place, name, front),
-    }
-}
-
-/// What begins with a cast is the left side of no assignment.
-#[tactic(auto, using(crate::proofs::GoalLemmas::shut_goal))]
-fn shut(alloc: Global, frames: Frames) -> Result<Frames, AllocError>
-    ensures { IfOk result (λ made. frames_of made ≡ M.shut (frames_of frames)) }
-{
-    match inner(frames) {
-        Inner::Frame(frame, outer) => under(outer, shut_frame(frame)),
-        Inner::Goal(goal) => Ok(alone(alloc, goal)),
-    }
-}
-
-fn begin_word(word: Keyword, place: Place, frames: Frames) -> Option<State>
-    ensures { IsNext result (M.begin_word word place (frames_of frames)) }
-{
-    match word {
-        Keyword::Null => Some(State::Have(Expr::Null { place }, frames)),
-        Keyword::Eof => Some(State::Have(Expr::Eof { place }, frames)),
-        _ => None,
-    }
-}
-
-fn begin_leaf(alloc: Global, token: &Token, frames: Frames) -> Result<Option<State>, AllocError>
-    ensures { IfOk result (λ next. IsNext next (M.begin_leaf token.now.kind token.now.place (frames_of frames))) }
-{
-    let place = token.place;
-    match &token.kind {
-        Tok::Name(name) => {
-            let name = name.copy(alloc)?;
-            Ok(Some(State::Called(place, name, frames)))
-        }
-        Tok::Number { value, long } => {
-            let (value, long) = (*value, *long);
-            Ok(Some(State::Have(Expr::Number { place, value, long }, frames)))
-        }
-        Tok::Char(value) => Ok(Some(State::Have(
-            Expr::Char {
-                place,
-                value: *value,
-            },
-            frames,
-        ))),
-        Tok::Str(bytes) => {
-            let bytes = bytes.copy(alloc)?;
-            Ok(Some(State::Have(Expr::Str { place, bytes }, frames)))
-        }
-        Tok::Word(word) => Ok(begin_word(*word, place, frames)),
-        Tok::Mark(_) => Ok(None),
-        Tok::Reserved(_) => Ok(None),
-    }
-}
-
-/// An operand begins with the token; `casts` says whether it may be a cast.
-pub fn begin(
-    alloc: Global,
-    casts: bool,
-    frames: Frames,
-    token: &Token,
-) -> Result<Option<State>, AllocError>
-    ensures { IfOk result (λ next. IsNext next (M.begin casts (frames_of frames) token.now)) }
-{
-    if is(Mark::LeftParen, token) {
-        return Ok(Some(State::Paren(casts, token.place, frames)));
-    }
-    if let Some(op) = step_op(token) {
-        let frames = under(frames, Frame::Prefix(token.place, op))?;
-        return Ok(Some(State::Operand(false, frames)));
-    }
-    if let Some(op) = prefix_op(token) {
-        let frames = under(frames, Frame::Prefix(token.place, op))?;
-        return Ok(Some(State::Operand(true, frames)));
-    }
-    begin_leaf(alloc, token, frames)
-}
-
-/// An expression begins with the token.
-pub fn begin_expr(alloc: Global, frames: Frames, token: &Token) -> Result<Option<State>, AllocError>
-    ensures { IfOk result (λ next. IsNext next (M.begin_expr (frames_of frames) token.now)) }
-{
-    let frames = begins_expr(frames)?;
-    begin(alloc, true, frames, token)
-}
-
-/// Behind a `(`.
-pub fn step_paren(
-    alloc: Global,
-    casts: bool,
-    place: Place,
-    frames: Frames,
-    token: &Token,
-) -> Result<Option<State>, AllocError>
-    ensures { IfOk result (λ next. IsNext next (M.step (M.paren casts place (frames_of frames)) token.now)) }
-{
-    if casts && is_type(token) {
-        let frames = shut(alloc, frames)?;
-        return Ok(begin_type(Use::Cast(place, frames), token));
-    }
-    let parens = under(frames, Frame::Parens)?;
-    begin_expr(alloc, parens, token)
-}
 
 fn assign_if(opens: bool, token: &Token) -> Option<AssignOp>
     ensures { result ≡ M.assign_if opens token.now }
@@ -170,28 +36,13 @@ fn if_tighter(op: BinaryOp, found: Option<BinaryOp>) -> Option<BinaryOp>
     }
 }
 
-fn after_element(
-    made: Made,
-    front: Vec<Expr>,
-    operand: Expr,
+fn after_cond(
+    opens: bool,
+    outer: Frames,
+    operand: Box<Expr>,
     token: &Token,
 ) -> Result<Turn, AllocError>
-    ensures { IfOk result (λ turn. IsTurn turn (expr_of operand) (M.element (made_of made) (map expr_of front.items)) token.now) }
-{
-    if is(Mark::Comma, token) {
-        let front = pushed(front, operand)?;
-        return Ok(Turn::Next(State::ElementNext(made, front)));
-    }
-    if is(Mark::RightBrace, token) {
-        let front = pushed(front, operand)?;
-        let declaring = with_init(made, Init::List(front))?;
-        return Ok(Turn::Next(State::Declared(declaring)));
-    }
-    Ok(Turn::Stop)
-}
-
-fn after_cond(opens: bool, outer: Frames, operand: Expr, token: &Token) -> Result<Turn, AllocError>
-    ensures { IfOk result (λ turn. IsTurn turn (expr_of operand) (M.cond opens (frames_of outer)) token.now) }
+    ensures { IfOk result (λ turn. IsTurn turn (expr_of operand.value) (M.cond opens (frames_of outer)) token.now) }
 {
     let place = token.place;
     if let Some(op) = assign_if(opens, token) {
@@ -214,12 +65,12 @@ fn after_right(
     alloc: Global,
     place: Place,
     op: BinaryOp,
-    left: Expr,
+    left: Box<Expr>,
     outer: Frames,
-    operand: Expr,
+    operand: Box<Expr>,
     token: &Token,
 ) -> Result<Turn, AllocError>
-    ensures { IfOk result (λ turn. IsTurn turn (expr_of operand) (M.right place op (expr_of left) (frames_of outer)) token.now) }
+    ensures { IfOk result (λ turn. IsTurn turn (expr_of operand.value) (M.right place op (expr_of left.value) (frames_of outer)) token.now) }
 {
     if let Some(next) = if_tighter(op, binary_op(token)) {
         let right = under(outer, Frame::Right(place, op, left))?;
@@ -231,12 +82,12 @@ fn after_right(
 
 fn after_middle(
     place: Place,
-    test: Expr,
+    test: Box<Expr>,
     outer: Frames,
-    operand: Expr,
+    operand: Box<Expr>,
     token: &Token,
 ) -> Result<Turn, AllocError>
-    ensures { IfOk result (λ turn. IsTurn turn (expr_of operand) (M.middle place (expr_of test) (frames_of outer)) token.now) }
+    ensures { IfOk result (λ turn. IsTurn turn (expr_of operand.value) (M.middle place (expr_of test.value) (frames_of outer)) token.now) }
 {
     if is(Mark::Colon, token) {
         let other = under(outer, Frame::Other(place, test, operand))?;
@@ -248,10 +99,10 @@ fn after_middle(
 fn after_first(
     alloc: Global,
     outer: Frames,
-    operand: Expr,
+    operand: Box<Expr>,
     token: &Token,
 ) -> Result<Turn, AllocError>
-    ensures { IfOk result (λ turn. IsTurn turn (expr_of operand) (M.first (frames_of outer)) token.now) }
+    ensures { IfOk result (λ turn. IsTurn turn (expr_of operand.value) (M.first (frames_of outer)) token.now) }
 {
     if is(Mark::Comma, token) {
         let front = pushed(Vec::new(alloc), operand)?;
@@ -262,24 +113,25 @@ fn after_first(
 }
 
 fn after_list(
+    alloc: Global,
     place: Place,
     front: Vec<Expr>,
     outer: Frames,
-    operand: Expr,
+    operand: Box<Expr>,
     token: &Token,
 ) -> Result<Turn, AllocError>
-    ensures { IfOk result (λ turn. IsTurn turn (expr_of operand) (M.list place (map expr_of front.items) (frames_of outer)) token.now) }
+    ensures { IfOk result (λ turn. IsTurn turn (expr_of operand.value) (M.list place (map expr_of front.items) (frames_of outer)) token.now) }
 {
     let front = pushed(front, operand)?;
     if is(Mark::Comma, token) {
         let list = under(outer, Frame::List(place, front))?;
         return Ok(Turn::Next(State::Operand(true, begins_assign(list)?)));
     }
-    Ok(Turn::Falls(nodes::comma(place, front), outer))
+    Ok(Turn::Falls(nodes::comma(alloc, place, front)?, outer))
 }
 
-fn after_parens(outer: Frames, operand: Expr, token: &Token) -> Turn
-    ensures { IsTurn result (expr_of operand) (M.parens (frames_of outer)) token.now }
+fn after_parens(outer: Frames, operand: Box<Expr>, token: &Token) -> Turn
+    ensures { IsTurn result (expr_of operand.value) (M.parens (frames_of outer)) token.now }
 {
     if is(Mark::RightParen, token) {
         return Turn::Next(State::Have(operand, outer));
@@ -290,12 +142,12 @@ fn after_parens(outer: Frames, operand: Expr, token: &Token) -> Turn
 fn after_subscript(
     alloc: Global,
     place: Place,
-    base: Expr,
+    base: Box<Expr>,
     outer: Frames,
-    operand: Expr,
+    operand: Box<Expr>,
     token: &Token,
 ) -> Result<Turn, AllocError>
-    ensures { IfOk result (λ turn. IsTurn turn (expr_of operand) (M.subscript place (expr_of base) (frames_of outer)) token.now) }
+    ensures { IfOk result (λ turn. IsTurn turn (expr_of operand.value) (M.subscript place (expr_of base.value) (frames_of outer)) token.now) }
 {
     if is(Mark::RightBracket, token) {
         let index = nodes::index(alloc, place, base, operand)?;
@@ -305,14 +157,15 @@ fn after_subscript(
 }
 
 fn after_arg(
+    alloc: Global,
     place: Place,
     name: Text,
     front: Vec<Expr>,
     outer: Frames,
-    operand: Expr,
+    operand: Box<Expr>,
     token: &Token,
 ) -> Result<Turn, AllocError>
-    ensures { IfOk result (λ turn. IsTurn turn (expr_of operand) (M.arg place name (map expr_of front.items) (frames_of outer)) token.now) }
+    ensures { IfOk result (λ turn. IsTurn turn (expr_of operand.value) (M.arg place name (map expr_of front.items) (frames_of outer)) token.now) }
 {
     let front = pushed(front, operand)?;
     if is(Mark::Comma, token) {
@@ -320,42 +173,21 @@ fn after_arg(
         return Ok(Turn::Next(State::Operand(true, begins_assign(arg)?)));
     }
     if is(Mark::RightParen, token) {
-        return Ok(Turn::Next(State::Have(nodes::call(place, name, front), outer)));
+        let call = nodes::call(alloc, place, name, front)?;
+        return Ok(Turn::Next(State::Have(call, outer)));
     }
     Ok(Turn::Stop)
-}
-
-fn after_init(alloc: Global, made: Made, operand: Expr, token: &Token) -> Result<Turn, AllocError>
-    ensures { IfOk result (λ turn. IsTurn turn (expr_of operand) (M.init_value (made_of made)) token.now) }
-{
-    let declaring = with_init(made, Init::Value(operand))?;
-    match step_declared(alloc, declaring, token)? {
-        Some(next) => Ok(Turn::Next(next)),
-        None => Ok(Turn::Stop),
-    }
-}
-
-/// What the outermost expression is for, with an operand that is complete, before the token.
-fn reach(alloc: Global, operand: Expr, goal: Goal, token: &Token) -> Result<Turn, AllocError>
-    ensures { IfOk result (λ turn. IsTurn turn (expr_of operand) (goal_of goal) token.now) }
-{
-    match goal {
-        Goal::Part(role) => end_part(role, operand, token),
-        Goal::Tested(test) => end_test(alloc, test, operand, token),
-        Goal::InitValue(made) => after_init(alloc, made, operand, token),
-        Goal::Element(made, front) => after_element(made, front, operand, token),
-    }
 }
 
 /// What a frame does with an operand that is complete, before the token.
 fn turn(
     alloc: Global,
-    operand: Expr,
+    operand: Box<Expr>,
     frame: Frame,
     outer: Frames,
     token: &Token,
 ) -> Result<Turn, AllocError>
-    ensures { IfOk result (λ turn. IsTurn turn (expr_of operand) (frame_of frame (frames_of outer)) token.now) }
+    ensures { IfOk result (λ turn. IsTurn turn (expr_of operand.value) (frame_of frame (frames_of outer)) token.now) }
 {
     match frame {
         Frame::Prefix(place, op) => Ok(Turn::Falls(
@@ -377,20 +209,22 @@ fn turn(
             ))
         }
         Frame::First => after_first(alloc, outer, operand, token),
-        Frame::List(place, front) => after_list(place, front, outer, operand, token),
+        Frame::List(place, front) => after_list(alloc, place, front, outer, operand, token),
         Frame::Parens => Ok(after_parens(outer, operand, token)),
         Frame::Subscript(place, base) => after_subscript(alloc, place, base, outer, operand, token),
-        Frame::Arg(place, name, front) => after_arg(place, name, front, outer, operand, token),
+        Frame::Arg(place, name, front) => after_arg(
+            alloc, place, name, front, outer, operand, token,
+        ),
     }
 }
 
 fn inner_turn(
     alloc: Global,
-    operand: Expr,
+    operand: Box<Expr>,
     frames: Frames,
     token: &Token,
 ) -> Result<Turn, AllocError>
-    ensures { IfOk result (λ turn. IsTurn turn (expr_of operand) (frames_of frames) token.now) }
+    ensures { IfOk result (λ turn. IsTurn turn (expr_of operand.value) (frames_of frames) token.now) }
 {
     match inner(frames) {
         Inner::Goal(goal) => reach(alloc, operand, Box::into_inner(goal), token),
@@ -401,11 +235,11 @@ fn inner_turn(
 /// An operand is complete, and the token follows: frames that cannot take it are left one after the other.
 fn follow(
     alloc: Global,
-    operand: Expr,
+    operand: Box<Expr>,
     frames: Frames,
     token: &Token,
 ) -> Result<Option<State>, AllocError>
-    ensures { IfOk result (λ next. IsNext next (M.follow (expr_of operand) (frames_of frames) token.now)) }
+    ensures { IfOk result (λ next. IsNext next (M.follow (expr_of operand.value) (frames_of frames) token.now)) }
 {
     match inner_turn(alloc, operand, frames, token)? {
         Turn::Next(next) => Ok(Some(next)),
@@ -417,11 +251,11 @@ fn follow(
 /// An operand is complete, unless the token goes on with it.
 pub fn go_on(
     alloc: Global,
-    operand: Expr,
+    operand: Box<Expr>,
     frames: Frames,
     token: &Token,
 ) -> Result<Option<State>, AllocError>
-    ensures { IfOk result (λ next. IsNext next (M.go_on (expr_of operand) (frames_of frames) token.now)) }
+    ensures { IfOk result (λ next. IsNext next (M.go_on (expr_of operand.value) (frames_of frames) token.now)) }
 {
     if is(Mark::LeftBracket, token) {
         let subscript = under(frames, Frame::Subscript(token.place, operand))?;
@@ -447,7 +281,8 @@ pub fn step_called(
     if is(Mark::LeftParen, token) {
         return Ok(Some(State::Opened(place, name, frames)));
     }
-    go_on(alloc, Expr::Name { place, name }, frames, token)
+    let operand = nodes::boxed(alloc, Expr::Name { place, name })?;
+    go_on(alloc, operand, frames, token)
 }
 
 /// Behind a name and a `(`.
@@ -462,7 +297,8 @@ pub fn step_opened(
 {
     let front: Vec<Expr> = Vec::new(alloc);
     if is(Mark::RightParen, token) {
-        return Ok(Some(State::Have(nodes::call(place, name, front), frames)));
+        let call = nodes::call(alloc, place, name, front)?;
+        return Ok(Some(State::Have(call, frames)));
     }
     let arg = under(frames, Frame::Arg(place, name, front))?;
     let frames = begins_assign(arg)?;

@@ -1,8 +1,8 @@
 //! From tokens to the tree that they spell.
 #![tactic(auto)]
 
-mod declarations;
 mod expressions;
+mod goals;
 mod parser;
 mod statements;
 

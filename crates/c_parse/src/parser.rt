@@ -1,73 +1,44 @@
 //! The parser takes one token at a time, and needs no recursion: what is begun lies on stacks.
 
-ghost use Rattle.std.specs.Prelude.{◌≡◌, IfOk, IfErr, None};
-ghost use Rattle.c_ast.specs.TreeViews.{type_of, stmt_of, unit_of};
+ghost use Rattle.std.specs.Prelude.{◌≡◌, IfOk, IfErr, None, List};
+ghost use Rattle.c_ast.specs.Trees.{Top};
+ghost use Rattle.c_ast.specs.TreeViews.{unit_of};
 ghost use Rattle.c_ast.specs.Grammar.{IsUnit};
 ghost use Rattle.c_ast.specs.Nesting as N;
 ghost use Rattle.c_parse_machine.specs.Machine as M;
-ghost use Rattle.c_parse_states.specs.Views.{state_of, head_of, outer_of, sizing_of, IsNext};
-ghost use Rattle.c_parse.specs.Parses.{Refuses};
-ghost use Rattle.c_parse_machine.specs.Told.{HaveOneTree};
+ghost use Rattle.c_parse_states.specs.Views.{state_of, IsNext};
+ghost use Rattle.c_parse.specs.Parses.{Refuses, Answers};
 ghost use Rattle.c_parse.specs.Ran.{Ran, IsFinished};
 
-use crate::declarations::{
-    begin_item, begin_type, step_declared, step_element, step_init, step_long, step_named,
-    step_params_done, step_params_open, step_size_open, step_sized, step_sizes, step_typed,
-};
-use crate::expressions::{begin, go_on, step_called, step_opened, step_paren};
-use crate::statements::{begin_stmt, settle, step_awaits, step_for_start, step_inside, step_test};
-use c_ast::{Item, Length, Mark, Stmt, Token, Unit};
+use crate::expressions::{go_on, step_called, step_opened};
+use crate::statements::settle;
+use c_ast::{Token, Unit};
 use c_nesting::too_deep;
-use c_parse_states::frames::{Head, Outer, Sizing, State, Use};
-use c_parse_states::signs::is;
+use c_parse_states::frames::{State, Use};
+use c_parse_steps::declarations::{
+    begin_item, begin_type, step_declared, step_element, step_init, step_long, step_named,
+    step_params_done, step_params_open, step_params_void, step_size_given, step_size_open,
+    step_sized, step_sizes, step_typed,
+};
+use c_parse_steps::operands::{begin, step_paren};
+use c_parse_steps::statements::{
+    begin_stmt, step_awaits, step_for_open, step_for_start, step_inside, step_semi, step_test,
+};
 use ib_base::Place;
 use std::alloc::{AllocError, Global};
+use thiserror::Error;
 
 /// Why tokens are not parsed.
-#[derive(Debug, Drop)]
+#[derive(Debug, Drop, Error)]
 pub enum ParseErr {
     /// The token at this place nests deeper than is taken.
+    #[error("{0}: constructs nest more than 200 deep")]
     TooDeep(Place),
     /// So many tokens begin a unit, and with the next they begin none, or they end there.
+    #[error("no program goes on behind its first {0} tokens")]
     Syntax(usize),
+    #[error("there is not enough memory to read the source")]
     NoMemory,
-}
-
-fn step_size_given(sizing: Sizing, length: Length, token: &Token) -> Option<State>
-    ensures { IsNext result (M.step (M.size_given (sizing_of sizing) length) token.now) }
-{
-    if is(Mark::RightBracket, token) {
-        return Some(State::Sized(sizing, length));
-    }
-    drop(sizing);
-    None
-}
-
-fn step_params_void(head: Head, token: &Token) -> Option<State>
-    ensures { IsNext result (M.step (M.params_void (head_of head)) token.now) }
-{
-    if is(Mark::RightParen, token) {
-        return Some(State::ParamsDone(head));
-    }
-    None
-}
-
-fn step_semi(stmt: Stmt, outer: Outer, token: &Token) -> Option<State>
-    ensures { IsNext result (M.step (M.semi (stmt_of stmt) (outer_of outer)) token.now) }
-{
-    if is(Mark::Semicolon, token) {
-        return Some(State::After(stmt, outer));
-    }
-    None
-}
-
-fn step_for_open(place: Place, outer: Outer, token: &Token) -> Option<State>
-    ensures { IsNext result (M.step (M.for_open place (outer_of outer)) token.now) }
-{
-    if is(Mark::LeftParen, token) {
-        return Some(State::ForStart(place, outer));
-    }
-    None
 }
 
 /// The state behind the token, or none where no unit goes on with it.
@@ -139,12 +110,13 @@ fn run(alloc: Global, tokens: &[Token]) -> Result<Unit, ParseErr>
 }
 
 /// The unit of the tokens, in time that is linear in their number. `TooDeep` comes before `Syntax`.
-#[tactic(auto, using(crate::proofs::RunLemmas::one_tree))]
 pub fn parse(alloc: Global, tokens: &[Token]) -> Result<Unit, ParseErr>
     ensures ok { IfOk result (λ unit. IsUnit tokens.now (unit_of unit)) }
-    ensures only { HaveOneTree tokens.now }
     ensures kept { IfOk result (λ unit. N.too_deep tokens.now ≡ None) }
     ensures refuses { IfErr result (λ e. Refuses tokens.now e) }
+
+    // Whatever unit the tokens spell is what is answered, where memory is not wanting.
+    ensures only { (unit : List Top) → IsUnit tokens.now unit → N.too_deep tokens.now ≡ None → Answers result unit }
 {
     match too_deep(alloc, tokens) {
         Ok(None) => run(alloc, tokens),

@@ -1,1 +1,2 @@
+mod GoalLemmas
 pub mod StackLemmas

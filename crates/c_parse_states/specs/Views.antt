@@ -43,9 +43,9 @@ head_of h = M.head (map item_of h.front.items) h.head.place (type_of h.head.resu
 
 abbrev pub arm_of : Arm → M.Outer → M.Outer
 arm_of (a.Braces p xs) i = M.braces p (map stmt_of xs.items) i
-arm_of (a.Then p e) i = M.then_arm p (expr_of e) i
-arm_of (a.Else p e s) i = M.else_arm p (expr_of e) (stmt_of s) i
-arm_of (a.While p e) i = M.while_body p (expr_of e) i
+arm_of (a.Then p e) i = M.then_arm p (expr_of e.value) i
+arm_of (a.Else p e s) i = M.else_arm p (expr_of e.value) (stmt_of s.value) i
+arm_of (a.While p e) i = M.while_body p (expr_of e.value) i
 arm_of (a.Do p) i = M.do_body p i
 arm_of (a.For p start x y) i = M.for_body p (start_of start) (part_of x) (part_of y) i
 
@@ -83,26 +83,26 @@ role_of (r.Third p start x i) = M.as_third p (start_of start) (part_of x) (outer
 abbrev pub test_of : Test → M.Test
 test_of (t.If p i) = M.as_if p (outer_of i)
 test_of (t.While p i) = M.as_while p (outer_of i)
-test_of (t.Do p a i) = M.as_do p (stmt_of a) (outer_of i)
+test_of (t.Do p a i) = M.as_do p (stmt_of a.value) (outer_of i)
 
 abbrev pub goal_of : Goal → M.Frames
 goal_of (g2.Part role) = M.part (role_of role)
 goal_of (g2.Tested x) = M.tested (test_of x)
-goal_of (g2.InitValue d) = M.init_value (made_of d)
-goal_of (g2.Element d xs) = M.element (made_of d) (map expr_of xs.items)
+goal_of (g2.InitValue d) = M.init_value (made_of d.value)
+goal_of (g2.Element d xs) = M.element (made_of d.value) (map expr_of xs.items)
 
 abbrev pub frame_of : Frame → M.Frames → M.Frames
 frame_of (f.Prefix p op) σ = M.prefix p op σ
 frame_of (f.CastTo p ty) σ = M.cast_to p (type_of ty) σ
 frame_of (f.Cond opens) σ = M.cond opens σ
-frame_of (f.Right p op x) σ = M.right p op (expr_of x) σ
-frame_of (f.Assigned p op x) σ = M.assigned p op (expr_of x) σ
-frame_of (f.Middle p x) σ = M.middle p (expr_of x) σ
-frame_of (f.Other p x y) σ = M.other p (expr_of x) (expr_of y) σ
+frame_of (f.Right p op x) σ = M.right p op (expr_of x.value) σ
+frame_of (f.Assigned p op x) σ = M.assigned p op (expr_of x.value) σ
+frame_of (f.Middle p x) σ = M.middle p (expr_of x.value) σ
+frame_of (f.Other p x y) σ = M.other p (expr_of x.value) (expr_of y.value) σ
 frame_of f.First σ = M.first σ
 frame_of (f.List p xs) σ = M.list p (map expr_of xs.items) σ
 frame_of f.Parens σ = M.parens σ
-frame_of (f.Subscript p x) σ = M.subscript p (expr_of x) σ
+frame_of (f.Subscript p x) σ = M.subscript p (expr_of x.value) σ
 frame_of (f.Arg p n xs) σ = M.arg p n (map expr_of xs.items) σ
 
 -- the innermost last
@@ -131,8 +131,8 @@ state_of (s.Sizes x) = M.sizes (sizing_of x)
 state_of (s.SizeOpen x) = M.size_open (sizing_of x)
 state_of (s.SizeGiven x l) = M.size_given (sizing_of x) l
 state_of (s.Sized x l) = M.sized (sizing_of x) l
-state_of (s.InitOpen d) = M.init_open (made_of d)
-state_of (s.ElementNext d xs) = M.element_next (made_of d) (map expr_of xs.items)
+state_of (s.InitOpen d) = M.init_open (made_of d.value)
+state_of (s.ElementNext d xs) = M.element_next (made_of d.value) (map expr_of xs.items)
 state_of (s.Declared d) = M.declared (declaring_of d)
 state_of (s.ParamsOpen h) = M.params_open (head_of h)
 state_of (s.ParamsVoid h) = M.params_void (head_of h)
@@ -140,17 +140,17 @@ state_of (s.ParamNext h) = M.param_next (head_of h)
 state_of (s.ParamsDone h) = M.params_done (head_of h)
 state_of (s.Inside b) = M.inside (inside_of b)
 state_of (s.Stmt i) = M.stmt (outer_of i)
-state_of (s.After x i) = M.after (stmt_of x) (outer_of i)
+state_of (s.After x i) = M.after (stmt_of x.value) (outer_of i)
 state_of (s.Test x) = M.test (test_of x)
 state_of (s.Awaits role) = M.awaits (role_of role)
-state_of (s.Semi x i) = M.semi (stmt_of x) (outer_of i)
+state_of (s.Semi x i) = M.semi (stmt_of x.value) (outer_of i)
 state_of (s.ForOpen p i) = M.for_open p (outer_of i)
 state_of (s.ForStart p i) = M.for_start p (outer_of i)
 state_of (s.Operand casts σ) = M.operand casts (frames_of σ)
 state_of (s.Paren casts p σ) = M.paren casts p (frames_of σ)
 state_of (s.Called p n σ) = M.called p n (frames_of σ)
 state_of (s.Opened p n σ) = M.opened p n (frames_of σ)
-state_of (s.Have a σ) = M.have (expr_of a) (frames_of σ)
+state_of (s.Have a σ) = M.have (expr_of a.value) (frames_of σ)
 
 abbrev pub IsNext : Option State → Option M.State → Type 0
 IsNext None r = r ≡ None
@@ -188,12 +188,12 @@ outer_depth (M.for_body p start x y i) = suc (outer_depth i)
 abbrev pub IsTurn : Turn → Exp → M.Frames → Token → Type 0
 IsTurn (turn.Next s) e σ tok = M.follow e σ tok ≡ Some (state_of s)
 IsTurn turn.Stop e σ tok = M.follow e σ tok ≡ None
-IsTurn (turn.Falls a τ) e σ tok = (M.follow e σ tok ≡ M.follow (expr_of a) (frames_of τ) tok) × (depth (frames_of τ) < depth σ)
+IsTurn (turn.Falls a τ) e σ tok = (M.follow e σ tok ≡ M.follow (expr_of a.value) (frames_of τ) tok) × (depth (frames_of τ) < depth σ)
 
 abbrev pub IsSettling : Settling → Stm → M.Outer → Token → Type 0
 IsSettling (settling.Next s) a i tok = M.settle a i tok ≡ Some (state_of s)
 IsSettling settling.Stop a i tok = M.settle a i tok ≡ None
-IsSettling (settling.Falls b j) a i tok = (M.settle a i tok ≡ M.settle (stmt_of b) (outer_of j) tok) × (outer_depth (outer_of j) < outer_depth i)
+IsSettling (settling.Falls b j) a i tok = (M.settle a i tok ≡ M.settle (stmt_of b.value) (outer_of j) tok) × (outer_depth (outer_of j) < outer_depth i)
 
 -- the innermost statement in which another stands
 abbrev pub IsInnermost : Innermost → M.Outer → Type 0

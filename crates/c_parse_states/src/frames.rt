@@ -15,9 +15,9 @@ pub struct Head {
 #[derive(Drop)]
 pub enum Arm {
     Braces(Place, Vec<Stmt>),
-    Then(Place, Expr),
-    Else(Place, Expr, Stmt),
-    While(Place, Expr),
+    Then(Place, Box<Expr>),
+    Else(Place, Box<Expr>, Box<Stmt>),
+    While(Place, Box<Expr>),
     Do(Place),
     For(Place, ForStart, Part, Part),
 }
@@ -80,7 +80,7 @@ pub enum Role {
 pub enum Test {
     If(Place, Outer),
     While(Place, Outer),
-    Do(Place, Stmt, Outer),
+    Do(Place, Box<Stmt>, Outer),
 }
 
 /// An expression in which another stands.
@@ -91,14 +91,14 @@ pub enum Frame {
     /// A conditional expression begins here, or, if the flag says so, an assignment.
     Cond(bool),
     /// The operator and its left operand.
-    Right(Place, BinaryOp, Expr),
-    Assigned(Place, AssignOp, Expr),
-    Middle(Place, Expr),
-    Other(Place, Expr, Expr),
+    Right(Place, BinaryOp, Box<Expr>),
+    Assigned(Place, AssignOp, Box<Expr>),
+    Middle(Place, Box<Expr>),
+    Other(Place, Box<Expr>, Box<Expr>),
     First,
     List(Place, Vec<Expr>),
     Parens,
-    Subscript(Place, Expr),
+    Subscript(Place, Box<Expr>),
     Arg(Place, Text, Vec<Expr>),
 }
 
@@ -107,8 +107,8 @@ pub enum Frame {
 pub enum Goal {
     Part(Role),
     Tested(Test),
-    InitValue(Made),
-    Element(Made, Vec<Expr>),
+    InitValue(Box<Made>),
+    Element(Box<Made>, Vec<Expr>),
 }
 
 /// What an expression is for: the outermost is for the goal, and the frames lie in each other, the
@@ -145,8 +145,8 @@ pub enum State {
     SizeOpen(Sizing),
     SizeGiven(Sizing, Length),
     Sized(Sizing, Length),
-    InitOpen(Made),
-    ElementNext(Made, Vec<Expr>),
+    InitOpen(Box<Made>),
+    ElementNext(Box<Made>, Vec<Expr>),
     Declared(Declaring),
     ParamsOpen(Head),
     ParamsVoid(Head),
@@ -154,10 +154,10 @@ pub enum State {
     ParamsDone(Head),
     Inside(Inside),
     Stmt(Outer),
-    After(Stmt, Outer),
+    After(Box<Stmt>, Outer),
     Test(Test),
     Awaits(Role),
-    Semi(Stmt, Outer),
+    Semi(Box<Stmt>, Outer),
     ForOpen(Place, Outer),
     ForStart(Place, Outer),
     /// Whether a cast may stand here.
@@ -165,7 +165,7 @@ pub enum State {
     Paren(bool, Place, Frames),
     Called(Place, Text, Frames),
     Opened(Place, Text, Frames),
-    Have(Expr, Frames),
+    Have(Box<Expr>, Frames),
 }
 
 /// The innermost statement in which another stands, and those around it.
@@ -188,7 +188,7 @@ pub enum Inner {
 pub enum Turn {
     Next(State),
     Stop,
-    Falls(Expr, Frames),
+    Falls(Box<Expr>, Frames),
 }
 
 /// The same of a statement.
@@ -196,5 +196,5 @@ pub enum Turn {
 pub enum Settling {
     Next(State),
     Stop,
-    Falls(Stmt, Outer),
+    Falls(Box<Stmt>, Outer),
 }

@@ -1,4 +1,5 @@
-//! Nodes of the tree, made of their parts.
+//! Nodes of the tree, made of their parts. A part lies in its box as soon as it is made, and a node
+//! is put together where nothing can fail any more.
 
 ghost use Rattle.std.specs.Prelude.{◌≡◌, IfOk, map};
 ghost use Rattle.c_ast.specs.Trees.{call, index, postfix, unary, cast, binary, conditional, assign, comma, exps, pointer, block, stms, if_then, if_else, while_loop, do_while, for_loop};
@@ -8,164 +9,223 @@ use c_ast::{AssignOp, BinaryOp, CType, Expr, ForStart, Part, PostfixOp, Stmt, Un
 use ib_base::{Place, Text};
 use std::alloc::{AllocError, Global};
 
+pub fn boxed(alloc: Global, expr: Expr) -> Result<Box<Expr>, AllocError>
+    ensures { IfOk result (λ made. made.value ≡ expr) }
+{
+    Ok(Box::new(alloc, expr)?)
+}
+
+pub fn boxed_stmt(alloc: Global, stmt: Stmt) -> Result<Box<Stmt>, AllocError>
+    ensures { IfOk result (λ made. made.value ≡ stmt) }
+{
+    Ok(Box::new(alloc, stmt)?)
+}
+
 pub fn pointer(alloc: Global, to: CType) -> Result<CType, AllocError>
     ensures { IfOk result (λ made. type_of made ≡ pointer (type_of to)) }
 {
     Ok(CType::Pointer(Box::new(alloc, to)?))
 }
 
-pub fn call(place: Place, name: Text, arguments: Vec<Expr>) -> Expr
-    ensures { expr_of result ≡ call place name (exps (map expr_of arguments.items)) }
+pub fn call(
+    alloc: Global,
+    place: Place,
+    name: Text,
+    arguments: Vec<Expr>,
+) -> Result<Box<Expr>, AllocError>
+    ensures { IfOk result (λ made. expr_of made.value ≡ call place name (exps (map expr_of arguments.items))) }
 {
-    Expr::Call {
-        place,
-        name,
-        arguments,
-    }
+    let made = boxed(
+        alloc,
+        Expr::Call {
+            place,
+            name,
+            arguments,
+        },
+    )?;
+    Ok(made)
 }
 
-pub fn comma(place: Place, parts: Vec<Expr>) -> Expr
-    ensures { expr_of result ≡ comma place (exps (map expr_of parts.items)) }
+pub fn comma(alloc: Global, place: Place, parts: Vec<Expr>) -> Result<Box<Expr>, AllocError>
+    ensures { IfOk result (λ made. expr_of made.value ≡ comma place (exps (map expr_of parts.items))) }
 {
-    Expr::Comma { place, parts }
+    let made = boxed(alloc, Expr::Comma { place, parts })?;
+    Ok(made)
 }
 
-pub fn block(place: Place, stmts: Vec<Stmt>) -> Stmt
-    ensures { stmt_of result ≡ block place (stms (map stmt_of stmts.items)) }
+pub fn block(alloc: Global, place: Place, stmts: Vec<Stmt>) -> Result<Box<Stmt>, AllocError>
+    ensures { IfOk result (λ made. stmt_of made.value ≡ block place (stms (map stmt_of stmts.items))) }
 {
-    Stmt::Block { place, stmts }
+    let made = boxed_stmt(alloc, Stmt::Block { place, stmts })?;
+    Ok(made)
 }
 
-pub fn index(alloc: Global, place: Place, base: Expr, at: Expr) -> Result<Expr, AllocError>
-    ensures { IfOk result (λ made. expr_of made ≡ index place (expr_of base) (expr_of at)) }
+pub fn index(
+    alloc: Global,
+    place: Place,
+    base: Box<Expr>,
+    at: Box<Expr>,
+) -> Result<Box<Expr>, AllocError>
+    ensures { IfOk result (λ made. expr_of made.value ≡ index place (expr_of base.value) (expr_of at.value)) }
 {
-    let base = Box::new(alloc, base)?;
-    let index = Box::new(alloc, at)?;
-    Ok(Expr::Index { place, base, index })
+    boxed(
+        alloc,
+        Expr::Index {
+            place,
+            base,
+            index: at,
+        },
+    )
 }
 
 pub fn postfix(
     alloc: Global,
     place: Place,
     op: PostfixOp,
-    operand: Expr,
-) -> Result<Expr, AllocError>
-    ensures { IfOk result (λ made. expr_of made ≡ postfix place op (expr_of operand)) }
+    operand: Box<Expr>,
+) -> Result<Box<Expr>, AllocError>
+    ensures { IfOk result (λ made. expr_of made.value ≡ postfix place op (expr_of operand.value)) }
 {
-    let operand = Box::new(alloc, operand)?;
-    Ok(Expr::Postfix { place, op, operand })
+    boxed(alloc, Expr::Postfix { place, op, operand })
 }
 
-pub fn unary(alloc: Global, place: Place, op: UnaryOp, operand: Expr) -> Result<Expr, AllocError>
-    ensures { IfOk result (λ made. expr_of made ≡ unary place op (expr_of operand)) }
+pub fn unary(
+    alloc: Global,
+    place: Place,
+    op: UnaryOp,
+    operand: Box<Expr>,
+) -> Result<Box<Expr>, AllocError>
+    ensures { IfOk result (λ made. expr_of made.value ≡ unary place op (expr_of operand.value)) }
 {
-    let operand = Box::new(alloc, operand)?;
-    Ok(Expr::Unary { place, op, operand })
+    boxed(alloc, Expr::Unary { place, op, operand })
 }
 
-pub fn cast(alloc: Global, place: Place, to: CType, operand: Expr) -> Result<Expr, AllocError>
-    ensures { IfOk result (λ made. expr_of made ≡ cast place (type_of to) (expr_of operand)) }
+pub fn cast(
+    alloc: Global,
+    place: Place,
+    to: CType,
+    operand: Box<Expr>,
+) -> Result<Box<Expr>, AllocError>
+    ensures { IfOk result (λ made. expr_of made.value ≡ cast place (type_of to) (expr_of operand.value)) }
 {
-    let operand = Box::new(alloc, operand)?;
-    Ok(Expr::Cast { place, to, operand })
+    boxed(alloc, Expr::Cast { place, to, operand })
 }
 
 pub fn binary(
     alloc: Global,
     place: Place,
     op: BinaryOp,
-    left: Expr,
-    right: Expr,
-) -> Result<Expr, AllocError>
-    ensures { IfOk result (λ made. expr_of made ≡ binary place op (expr_of left) (expr_of right)) }
+    left: Box<Expr>,
+    right: Box<Expr>,
+) -> Result<Box<Expr>, AllocError>
+    ensures { IfOk result (λ made. expr_of made.value ≡ binary place op (expr_of left.value) (expr_of right.value)) }
 {
-    let left = Box::new(alloc, left)?;
-    let right = Box::new(alloc, right)?;
-    Ok(Expr::Binary {
-        place,
-        op,
-        left,
-        right,
-    })
+    boxed(
+        alloc,
+        Expr::Binary {
+            place,
+            op,
+            left,
+            right,
+        },
+    )
 }
 
 pub fn conditional(
     alloc: Global,
     place: Place,
-    test: Expr,
-    then: Expr,
-    other: Expr,
-) -> Result<Expr, AllocError>
-    ensures { IfOk result (λ made. expr_of made ≡ conditional place (expr_of test) (expr_of then) (expr_of other)) }
+    test: Box<Expr>,
+    then: Box<Expr>,
+    other: Box<Expr>,
+) -> Result<Box<Expr>, AllocError>
+    ensures { IfOk result (λ made. expr_of made.value ≡ conditional place (expr_of test.value) (expr_of then.value) (expr_of other.value)) }
 {
-    let test = Box::new(alloc, test)?;
-    let then = Box::new(alloc, then)?;
-    let other = Box::new(alloc, other)?;
-    Ok(Expr::Conditional {
-        place,
-        test,
-        then,
-        other,
-    })
+    boxed(
+        alloc,
+        Expr::Conditional {
+            place,
+            test,
+            then,
+            other,
+        },
+    )
 }
 
 pub fn assign(
     alloc: Global,
     place: Place,
     op: AssignOp,
-    target: Expr,
-    value: Expr,
-) -> Result<Expr, AllocError>
-    ensures { IfOk result (λ made. expr_of made ≡ assign place op (expr_of target) (expr_of value)) }
+    target: Box<Expr>,
+    value: Box<Expr>,
+) -> Result<Box<Expr>, AllocError>
+    ensures { IfOk result (λ made. expr_of made.value ≡ assign place op (expr_of target.value) (expr_of value.value)) }
 {
-    let target = Box::new(alloc, target)?;
-    let value = Box::new(alloc, value)?;
-    Ok(Expr::Assign {
-        place,
-        op,
-        target,
-        value,
-    })
+    boxed(
+        alloc,
+        Expr::Assign {
+            place,
+            op,
+            target,
+            value,
+        },
+    )
 }
 
-pub fn if_then(alloc: Global, place: Place, test: Expr, then: Stmt) -> Result<Stmt, AllocError>
-    ensures { IfOk result (λ made. stmt_of made ≡ if_then place (expr_of test) (stmt_of then)) }
+pub fn if_then(
+    alloc: Global,
+    place: Place,
+    test: Box<Expr>,
+    then: Box<Stmt>,
+) -> Result<Box<Stmt>, AllocError>
+    ensures { IfOk result (λ made. stmt_of made.value ≡ if_then place (expr_of test.value) (stmt_of then.value)) }
 {
-    let then = Box::new(alloc, then)?;
-    Ok(Stmt::If { place, test, then })
+    let test = Box::into_inner(test);
+    boxed_stmt(alloc, Stmt::If { place, test, then })
 }
 
 pub fn if_else(
     alloc: Global,
     place: Place,
-    test: Expr,
-    then: Stmt,
-    other: Stmt,
-) -> Result<Stmt, AllocError>
-    ensures { IfOk result (λ made. stmt_of made ≡ if_else place (expr_of test) (stmt_of then) (stmt_of other)) }
+    test: Box<Expr>,
+    then: Box<Stmt>,
+    other: Box<Stmt>,
+) -> Result<Box<Stmt>, AllocError>
+    ensures { IfOk result (λ made. stmt_of made.value ≡ if_else place (expr_of test.value) (stmt_of then.value) (stmt_of other.value)) }
 {
-    let then = Box::new(alloc, then)?;
-    let other = Box::new(alloc, other)?;
-    Ok(Stmt::IfElse {
-        place,
-        test,
-        then,
-        other,
-    })
+    let test = Box::into_inner(test);
+    boxed_stmt(
+        alloc,
+        Stmt::IfElse {
+            place,
+            test,
+            then,
+            other,
+        },
+    )
 }
 
-pub fn while_loop(alloc: Global, place: Place, test: Expr, body: Stmt) -> Result<Stmt, AllocError>
-    ensures { IfOk result (λ made. stmt_of made ≡ while_loop place (expr_of test) (stmt_of body)) }
+pub fn while_loop(
+    alloc: Global,
+    place: Place,
+    test: Box<Expr>,
+    body: Box<Stmt>,
+) -> Result<Box<Stmt>, AllocError>
+    ensures { IfOk result (λ made. stmt_of made.value ≡ while_loop place (expr_of test.value) (stmt_of body.value)) }
 {
-    let body = Box::new(alloc, body)?;
-    Ok(Stmt::While { place, test, body })
+    let test = Box::into_inner(test);
+    boxed_stmt(alloc, Stmt::While { place, test, body })
 }
 
-pub fn do_while(alloc: Global, place: Place, body: Stmt, test: Expr) -> Result<Stmt, AllocError>
-    ensures { IfOk result (λ made. stmt_of made ≡ do_while place (stmt_of body) (expr_of test)) }
+pub fn do_while(
+    alloc: Global,
+    place: Place,
+    body: Box<Stmt>,
+    test: Box<Expr>,
+) -> Result<Box<Stmt>, AllocError>
+    ensures { IfOk result (λ made. stmt_of made.value ≡ do_while place (stmt_of body.value) (expr_of test.value)) }
 {
-    let body = Box::new(alloc, body)?;
-    Ok(Stmt::DoWhile { place, body, test })
+    let test = Box::into_inner(test);
+    boxed_stmt(alloc, Stmt::DoWhile { place, body, test })
 }
 
 pub fn for_loop(
@@ -174,16 +234,18 @@ pub fn for_loop(
     start: ForStart,
     test: Part,
     next: Part,
-    body: Stmt,
-) -> Result<Stmt, AllocError>
-    ensures { IfOk result (λ made. stmt_of made ≡ for_loop place (start_of start) (part_of test) (part_of next) (stmt_of body)) }
+    body: Box<Stmt>,
+) -> Result<Box<Stmt>, AllocError>
+    ensures { IfOk result (λ made. stmt_of made.value ≡ for_loop place (start_of start) (part_of test) (part_of next) (stmt_of body.value)) }
 {
-    let body = Box::new(alloc, body)?;
-    Ok(Stmt::For {
-        place,
-        start,
-        test,
-        next,
-        body,
-    })
+    boxed_stmt(
+        alloc,
+        Stmt::For {
+            place,
+            start,
+            test,
+            next,
+            body,
+        },
+    )
 }

@@ -68,11 +68,41 @@ pub fn alone(alloc: Global, goal: Box<Goal>) -> Frames
     Frames { goal, frames }
 }
 
+fn shut_frame(frame: Frame) -> Frame
+    ensures { (σ : M.Frames) → frame_of result σ ≡ M.shut (frame_of frame σ) }
+{
+    match frame {
+        Frame::Cond(_) => Frame::Cond(false),
+        Frame::Prefix(place, op) => Frame::Prefix(place, op),
+        Frame::CastTo(place, to) => Frame::CastTo(place, to),
+        Frame::Right(place, op, left) => Frame::Right(place, op, left),
+        Frame::Assigned(place, op, target) => Frame::Assigned(place, op, target),
+        Frame::Middle(place, test) => Frame::Middle(place, test),
+        Frame::Other(place, test, then) => Frame::Other(place, test, then),
+        Frame::First => Frame::First,
+        Frame::List(place, front) => Frame::List(place, front),
+        Frame::Parens => Frame::Parens,
+        Frame::Subscript(place, base) => Frame::Subscript(place, base),
+        Frame::Arg(place, name, front) => Frame::Arg(place, name, front),
+    }
+}
+
+/// What begins with a cast is the left side of no assignment.
+#[tactic(auto, using(crate::proofs::GoalLemmas::shut_goal))]
+pub fn shut(alloc: Global, frames: Frames) -> Result<Frames, AllocError>
+    ensures { IfOk result (λ made. frames_of made ≡ M.shut (frames_of frames)) }
+{
+    match inner(frames) {
+        Inner::Frame(frame, outer) => under(outer, shut_frame(frame)),
+        Inner::Goal(goal) => Ok(alone(alloc, goal)),
+    }
+}
+
 /// The expressions with one more.
-pub fn pushed(front: Vec<Expr>, last: Expr) -> Result<Vec<Expr>, AllocError>
-    ensures { IfOk result (λ all. map expr_of all.items ≡ map expr_of front.items ++ expr_of last ∷ []) }
+pub fn pushed(front: Vec<Expr>, last: Box<Expr>) -> Result<Vec<Expr>, AllocError>
+    ensures { IfOk result (λ all. map expr_of all.items ≡ map expr_of front.items ++ expr_of last.value ∷ []) }
 {
     let mut front = front;
-    front.push(last)?;
+    front.push(Box::into_inner(last))?;
     Ok(front)
 }

@@ -6,7 +6,7 @@ ghost use Rattle.c_ast.specs.TreeViews.{type_of, expr_of, init_of, decl_of, para
 ghost use Rattle.c_parse_machine.specs.Machine as M;
 ghost use Rattle.c_parse_states.specs.Views.{head_of, target_of, declaring_of, made_of, use_of, sizing_of, frames_of, state_of, IsNext};
 
-use crate::expressions::{begin, begins_assign};
+use crate::operands::{begin, begins_assign};
 use crate::statements::with_local;
 use c_ast::{
     Base, CType, Declarator, Expr, ForStart, FunctionHead, Init, Item, Keyword, Length, Mark,
@@ -167,6 +167,7 @@ fn step_param(head: Head, token: &Token) -> Option<State>
     if is(Mark::RightParen, token) {
         return Some(State::ParamsDone(head));
     }
+    drop(head);
     None
 }
 
@@ -189,7 +190,7 @@ fn sized_declarator(
         length,
     };
     if is(Mark::Assign, token) {
-        return Ok(Some(State::InitOpen(made)));
+        return Ok(Some(State::InitOpen(Box::new(alloc, made)?)));
     }
     let declaring = with_init(made, Init::Nothing)?;
     step_declared(alloc, declaring, token)
@@ -253,6 +254,17 @@ pub fn step_size_open(sizing: Sizing, token: &Token) -> Option<State>
             None
         }
     }
+}
+
+/// Behind the number in such brackets.
+pub fn step_size_given(sizing: Sizing, length: Length, token: &Token) -> Option<State>
+    ensures { IsNext result (M.step (M.size_given (sizing_of sizing) length) token.now) }
+{
+    if is(Mark::RightBracket, token) {
+        return Some(State::Sized(sizing, length));
+    }
+    drop(sizing);
+    None
 }
 
 fn type_of_param(
@@ -399,8 +411,8 @@ pub fn step_named(
 }
 
 /// Behind the `=` of a declarator.
-pub fn step_init(alloc: Global, made: Made, token: &Token) -> Result<Option<State>, AllocError>
-    ensures { IfOk result (λ next. IsNext next (M.step (M.init_open (made_of made)) token.now)) }
+pub fn step_init(alloc: Global, made: Box<Made>, token: &Token) -> Result<Option<State>, AllocError>
+    ensures { IfOk result (λ next. IsNext next (M.step (M.init_open (made_of made.value)) token.now)) }
 {
     if is(Mark::LeftBrace, token) {
         let front: Vec<Expr> = Vec::new(alloc);
@@ -414,14 +426,14 @@ pub fn step_init(alloc: Global, made: Made, token: &Token) -> Result<Option<Stat
 /// Behind a comma of an initialiser's list.
 pub fn step_element(
     alloc: Global,
-    made: Made,
+    made: Box<Made>,
     front: Vec<Expr>,
     token: &Token,
 ) -> Result<Option<State>, AllocError>
-    ensures { IfOk result (λ next. IsNext next (M.step (M.element_next (made_of made) (map expr_of front.items)) token.now)) }
+    ensures { IfOk result (λ next. IsNext next (M.step (M.element_next (made_of made.value) (map expr_of front.items)) token.now)) }
 {
     if is(Mark::RightBrace, token) {
-        return Ok(Some(State::Declared(with_init(made, Init::List(front))?)));
+        return Ok(Some(State::Declared(with_init(Box::into_inner(made), Init::List(front))?)));
     }
     let element = begins_assign(outermost(alloc, Goal::Element(made, front))?)?;
     begin(alloc, true, element, token)
@@ -438,6 +450,17 @@ pub fn step_params_open(head: Head, token: &Token) -> Option<State>
         return Some(State::ParamsVoid(head));
     }
     begin_type(Use::Parameter(token.place, head), token)
+}
+
+/// Behind the `void` of a function without parameters.
+pub fn step_params_void(head: Head, token: &Token) -> Option<State>
+    ensures { IsNext result (M.step (M.params_void (head_of head)) token.now) }
+{
+    if is(Mark::RightParen, token) {
+        return Some(State::ParamsDone(head));
+    }
+    drop(head);
+    None
 }
 
 /// Behind the `)` of a function's parameters.
@@ -458,6 +481,7 @@ pub fn step_params_done(
         let stmts: Vec<Stmt> = Vec::new(alloc);
         return Ok(Some(State::Inside(Inside::Body(Box::new(alloc, head)?, stmts))));
     }
+    drop(head);
     Ok(None)
 }
 

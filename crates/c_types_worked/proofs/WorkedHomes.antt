@@ -10,7 +10,7 @@ use Rattle.c_layout.specs.declared.shape.Shape.TheVariants.{Array}
 use Rattle.c_types_homes.specs.Addressed.{function_taken}
 use Rattle.c_types_homes.specs.Declarators.{declared_shape, param_type}
 use Rattle.c_types_homes.specs.Homes.{function_homes, frame_size}
-use Rattle.c_types_tests.proofs.Small.{at, int, char, long, to_int, name, number, text, unary, scalar, array, doing, local, param}
+use Rattle.c_types_worked.proofs.Small.{at, int, char, long, to_int, name, number, text, unary, scalar, array, doing, local, param}
 
 -- ---- which variables have their address taken, by their numbers
 

@@ -28,7 +28,7 @@ use Rattle.c_types_operators.specs.declared.scope.Variable.{Variable}
 use Rattle.c_types_operators.specs.Rules.{Fine, breaks}
 use Rattle.c_types_operators.specs.Scopes.{Scope}
 use Rattle.c_types_expressions.specs.Expressions.{value, effect}
-use Rattle.c_types_tests.proofs.Small.{at, name, number, text, call, unary, binary, set}
+use Rattle.c_types_worked.proofs.Small.{at, name, number, text, call, unary, binary, set}
 
 -- ---- names
 

@@ -10,7 +10,7 @@ use Rattle.c_types_operators.specs.declared.rule.Rule.TheVariants.{UnknownName, 
 use Rattle.c_types_operators.specs.Parts.{breach}
 use Rattle.c_types_operators.specs.Rules.{Judged, Fine, Broken}
 use Rattle.c_types_statements.specs.Statements.{literals_in_all, places_of, statements}
-use Rattle.c_types_tests.proofs.Small.{at, int, name, number, text, scalar, array, doing, return, local}
+use Rattle.c_types_worked.proofs.Small.{at, int, name, number, text, scalar, array, doing, return, local}
 
 -- ---- numbers and strings
 

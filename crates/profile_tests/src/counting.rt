@@ -3,7 +3,6 @@ use profile::run_counting;
 use smallvec::SmallVec;
 use sqlite_items::Items;
 use std::alloc::{AllocError, Global};
-use std::test::Fail;
 use tac_core::{Act, Block, Counts, End, Regs, Size, TacFunc, TacOp, TacProgram};
 
 fn block(alloc: Global, acts: &[Act], end: End) -> Result<Block, AllocError> {
@@ -113,64 +112,102 @@ fn quotient(alloc: Global) -> Result<Option<TacProgram>, AllocError> {
     )
 }
 
-fn run(
+/// How a run has to come out: its outcome, how many bytes it prints, how often functions are entered, and how often edges
+/// are taken, each by its function and its two blocks.
+#[derive(Clone, Copy)]
+struct Wanted<'a> {
+    outcome: Outcome,
+    printed: usize,
+    entries: &'a [(u32, u64)],
+    edges: &'a [(u32, u32, u32, u64)],
+}
+
+fn has(counts: &Counts, wanted: Wanted<'_>) -> bool {
+    for (func, times) in wanted.entries {
+        if counts.entries(*func) != *times {
+            return false;
+        }
+    }
+    for (func, from, to, times) in wanted.edges {
+        if counts.edge(*func, *from, *to) != *times {
+            return false;
+        }
+    }
+    true
+}
+
+fn comes_out(
     alloc: Global,
-    tac: Result<Option<TacProgram>, AllocError>,
+    tac: &TacProgram,
     input: &[u8],
     budget: u64,
-) -> Result<Option<(Outcome, Counts, MemHost)>, AllocError> {
-    let Some(tac) = tac? else {
-        return Ok(None);
-    };
+    wanted: Wanted<'_>,
+) -> Result<bool, AllocError> {
     let mut host = MemHost::new(alloc, input)?;
-    Ok(match run_counting(alloc, &tac, &mut host, budget) {
-        Ok((outcome, counts)) => Some((outcome, counts, host)),
-        Err(_) => None,
-    })
-}
-
-#[test]
-fn edges_are_counted_up_to_the_budget(rt: HostRuntime) -> Result<(), Fail> {
-    for (budget, outcome) in [(13, Outcome::Spent), (14, Outcome::Ended(3))] {
-        let (came, counts, _) = run(rt.alloc(), loop_of_three(rt.alloc()), b"", budget)?.expect(
-            &rt, "a run",
-        );
-        assert_eq!(rt; came, outcome);
-        let read = [
-            counts.entries(0),
-            counts.edge(0, 0, 1),
-            counts.edge(0, 1, 1),
-            counts.edge(0, 1, 2),
-            counts.edge(0, 2, 0),
-        ];
-        assert_eq!(rt; read, [1, 1, 2, 1, 0]);
+    match run_counting(alloc, tac, &mut host, budget) {
+        Ok((outcome, counts)) => {
+            let has = has(&counts, wanted);
+            Ok(has && outcome == wanted.outcome && host.output().len() == wanted.printed)
+        }
+        Err(_) => Ok(false),
     }
-    Ok(())
 }
 
-#[test]
-fn calls_count_where_they_enter_and_return(rt: HostRuntime) -> Result<(), Fail> {
-    let (came, counts, host) = run(rt.alloc(), echo_for_ever(rt.alloc()), b"A", 100_000)?.expect(
-        &rt, "a run",
-    );
+fn loop_comes_out(alloc: Global, budget: u64, outcome: Outcome) -> Result<bool, AllocError> {
+    let wanted = Wanted {
+        outcome,
+        printed: 0,
+        entries: &[(0, 1)],
+        edges: &[(0, 0, 1, 1), (0, 1, 1, 2), (0, 1, 2, 1), (0, 2, 0, 0)],
+    };
+    match loop_of_three(alloc)? {
+        Some(tac) => comes_out(alloc, &tac, b"", budget, wanted),
+        None => Ok(false),
+    }
+}
+
+fn echo_comes_out(alloc: Global) -> Result<bool, AllocError> {
     let place = Place { line: 4, col: 7 };
     let kind = FaultKind::StackOverflow;
-    assert_eq!(rt; came, Outcome::Faulted { place, kind });
-    assert_eq!(rt; [counts.entries(0), counts.edge(0, 0, 1)], [4096, 0]);
-    assert_eq!(rt; host.output().len(), 2 + 2 * 4095);
+    let wanted = Wanted {
+        outcome: Outcome::Faulted { place, kind },
+        printed: 2 + 2 * 4095,
+        entries: &[(0, 4096)],
+        edges: &[(0, 0, 1, 0)],
+    };
+    match echo_for_ever(alloc)? {
+        Some(tac) => comes_out(alloc, &tac, b"A", 100_000, wanted),
+        None => Ok(false),
+    }
+}
 
-    let (came, counts, _) = run(rt.alloc(), quotient(rt.alloc()), b"\x09\x00", 100)?.expect(
-        &rt, "a run",
-    );
+fn quotient_comes_out(alloc: Global) -> Result<bool, AllocError> {
     let place = Place { line: 3, col: 5 };
     let kind = FaultKind::DivZero;
-    assert_eq!(rt; came, Outcome::Faulted { place, kind });
-    let read = [
-        counts.entries(0),
-        counts.entries(1),
-        counts.edge(0, 0, 1),
-        counts.edge(0, 1, 2),
-    ];
-    assert_eq!(rt; read, [1, 2, 1, 0]);
-    Ok(())
+    let wanted = Wanted {
+        outcome: Outcome::Faulted { place, kind },
+        printed: 0,
+        entries: &[(0, 1), (1, 2)],
+        edges: &[(0, 0, 1, 1), (0, 1, 2, 0)],
+    };
+    match quotient(alloc)? {
+        Some(tac) => comes_out(alloc, &tac, b"\x09\x00", 100, wanted),
+        None => Ok(false),
+    }
+}
+
+#[test]
+fn edges_are_counted_up_to_the_budget(rt: HostRuntime) {
+    assert!(rt; matches!(loop_comes_out(rt.alloc(), 13, Outcome::Spent), Ok(true)));
+    assert!(rt; matches!(loop_comes_out(rt.alloc(), 14, Outcome::Ended(3)), Ok(true)));
+}
+
+#[test]
+fn calls_count_where_they_enter(rt: HostRuntime) {
+    assert!(rt; matches!(echo_comes_out(rt.alloc()), Ok(true)));
+}
+
+#[test]
+fn calls_count_where_they_return(rt: HostRuntime) {
+    assert!(rt; matches!(quotient_comes_out(rt.alloc()), Ok(true)));
 }

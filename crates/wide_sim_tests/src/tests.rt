@@ -3,8 +3,6 @@ use ib_base::{FaultKind, MemHost, Place, Text, Width};
 use machine_desc::{Four, Machine, Narrow};
 use sqlite_items::Items;
 use std::alloc::{AllocError, Global};
-use std::process::Abort;
-use std::test::Fail;
 use wide_core::{Loc, RawCode, Tagged, WideAct, WideCode, WideFunc, WideOp, Word};
 use wide_sim::{Sim, SimErr, SimOutcome, Stepped, simulate};
 
@@ -161,13 +159,6 @@ fn pair_row(
     comes_out::<Four>(alloc, words, b"", wanted, text)
 }
 
-fn holds(rt: &impl Abort, shown: Result<bool, SimErr>) -> bool {
-    match shown {
-        Ok(shown) => shown,
-        Err(_) => panic!(rt; "no outcome"),
-    }
-}
-
 fn ended(value: i32, cycles: u64) -> SimOutcome {
     SimOutcome::Ended {
         result: value,
@@ -231,20 +222,22 @@ fn show(from: u32) -> Step {
     Step::Plain(Act::PutNumber { from })
 }
 
-#[test]
-fn words_wait_for_what_is_late(rt: HostRuntime) -> Result<(), Fail> {
+fn late_reads(alloc: Global) -> Result<bool, SimErr> {
     let six = [
         (1, number(0, 6)),
         (2, square(1, 0)),
         (3, show(1)),
         (4, Step::Give(1)),
     ];
-    assert!(rt; holds(&rt, row::<Narrow>(rt.alloc(), &six, ended(36, 6), b"36")));
-    Ok(())
+    row::<Narrow>(alloc, &six, ended(36, 6), b"36")
 }
 
 #[test]
-fn words_wait_for_what_they_write(rt: HostRuntime) -> Result<(), Fail> {
+fn words_wait_for_what_is_late(rt: HostRuntime) {
+    assert!(rt; matches!(late_reads(rt.alloc()), Ok(true)));
+}
+
+fn late_writes(alloc: Global) -> Result<bool, SimErr> {
     let rows = [
         (1, number(0, 6)),
         (2, square(1, 0)),
@@ -252,23 +245,29 @@ fn words_wait_for_what_they_write(rt: HostRuntime) -> Result<(), Fail> {
         (4, show(1)),
         (5, Step::Give(1)),
     ];
-    assert!(rt; holds(&rt, row::<Four>(rt.alloc(), &rows, ended(7, 8), b"7")));
-    Ok(())
+    row::<Four>(alloc, &rows, ended(7, 8), b"7")
 }
 
 #[test]
-fn a_mark_that_nothing_reads_is_never_seen(rt: HostRuntime) -> Result<(), Fail> {
+fn words_wait_for_what_they_write(rt: HostRuntime) {
+    assert!(rt; matches!(late_writes(rt.alloc()), Ok(true)));
+}
+
+fn unread_mark(alloc: Global) -> Result<bool, SimErr> {
     let rows = [
         (1, number(0, 0)),
         (2, load(Width::W4, 1, 0)),
         (3, Step::Give(0)),
     ];
-    assert!(rt; holds(&rt, row::<Narrow>(rt.alloc(), &rows, ended(0, 3), b"")));
-    Ok(())
+    row::<Narrow>(alloc, &rows, ended(0, 3), b"")
 }
 
 #[test]
-fn a_check_reports_a_mark(rt: HostRuntime) -> Result<(), Fail> {
+fn a_mark_that_nothing_reads_is_never_seen(rt: HostRuntime) {
+    assert!(rt; matches!(unread_mark(rt.alloc()), Ok(true)));
+}
+
+fn checked_mark(alloc: Global) -> Result<bool, SimErr> {
     let rows = [
         (1, number(0, 0)),
         (2, load(Width::W4, 1, 0)),
@@ -276,12 +275,15 @@ fn a_check_reports_a_mark(rt: HostRuntime) -> Result<(), Fail> {
         (3, Step::Give(0)),
     ];
     let wanted = reported(2, FaultKind::BadAddress, 4);
-    assert!(rt; holds(&rt, row::<Narrow>(rt.alloc(), &rows, wanted, b"")));
-    Ok(())
+    row::<Narrow>(alloc, &rows, wanted, b"")
 }
 
 #[test]
-fn of_two_marks_the_least_is_reported(rt: HostRuntime) -> Result<(), Fail> {
+fn a_check_reports_a_mark(rt: HostRuntime) {
+    assert!(rt; matches!(checked_mark(rt.alloc()), Ok(true)));
+}
+
+fn two_marks(alloc: Global) -> Result<bool, SimErr> {
     let rows = [
         (1, number(0, 0)),
         (2, load(Width::W4, 1, 0)),
@@ -290,12 +292,15 @@ fn of_two_marks_the_least_is_reported(rt: HostRuntime) -> Result<(), Fail> {
         (5, Step::Give(0)),
     ];
     let wanted = reported(2, FaultKind::BadAddress, 6);
-    assert!(rt; holds(&rt, row::<Narrow>(rt.alloc(), &rows, wanted, b"")));
-    Ok(())
+    row::<Narrow>(alloc, &rows, wanted, b"")
 }
 
 #[test]
-fn slots_keep_marks(rt: HostRuntime) -> Result<(), Fail> {
+fn of_two_marks_the_least_is_reported(rt: HostRuntime) {
+    assert!(rt; matches!(two_marks(rt.alloc()), Ok(true)));
+}
+
+fn spilled_mark(alloc: Global) -> Result<bool, SimErr> {
     let rows = [
         (1, number(0, 0)),
         (2, load(Width::W4, 1, 0)),
@@ -304,12 +309,15 @@ fn slots_keep_marks(rt: HostRuntime) -> Result<(), Fail> {
         (5, Step::Give(5)),
     ];
     let wanted = reported(2, FaultKind::BadAddress, 8);
-    assert!(rt; holds(&rt, row::<Narrow>(rt.alloc(), &rows, wanted, b"")));
-    Ok(())
+    row::<Narrow>(alloc, &rows, wanted, b"")
 }
 
 #[test]
-fn input_is_taken_byte_by_byte(rt: HostRuntime) -> Result<(), Fail> {
+fn slots_keep_marks(rt: HostRuntime) {
+    assert!(rt; matches!(spilled_mark(rt.alloc()), Ok(true)));
+}
+
+fn taken_input(alloc: Global) -> Result<bool, SimErr> {
     let rows = [
         (1, Step::Plain(Act::Get { to: 0 })),
         (2, Step::Plain(Act::PutByte { from: 0 })),
@@ -317,12 +325,15 @@ fn input_is_taken_byte_by_byte(rt: HostRuntime) -> Result<(), Fail> {
         (4, show(1)),
         (5, Step::Stop),
     ];
-    assert!(rt; holds(&rt, row::<Four>(rt.alloc(), &rows, ended(0, 5), b"x-1")));
-    Ok(())
+    row::<Four>(alloc, &rows, ended(0, 5), b"x-1")
 }
 
 #[test]
-fn words_read_before_they_write(rt: HostRuntime) -> Result<(), Fail> {
+fn input_is_taken_byte_by_byte(rt: HostRuntime) {
+    assert!(rt; matches!(taken_input(rt.alloc()), Ok(true)));
+}
+
+fn swapped(alloc: Global) -> Result<bool, SimErr> {
     let rows = [
         ((1, number(0, 1)), (2, number(1, 2))),
         ((3, copy(0, 1)), (4, copy(1, 0))),
@@ -333,12 +344,15 @@ fn words_read_before_they_write(rt: HostRuntime) -> Result<(), Fail> {
         ),
     ];
     let wanted = reported(8, FaultKind::DivZero, 4);
-    assert!(rt; holds(&rt, pair_row(rt.alloc(), &rows, wanted, b"21")));
-    Ok(())
+    pair_row(alloc, &rows, wanted, b"21")
 }
 
 #[test]
-fn nothing_behind_a_report_is_done(rt: HostRuntime) -> Result<(), Fail> {
+fn words_read_before_they_write(rt: HostRuntime) {
+    assert!(rt; matches!(swapped(rt.alloc()), Ok(true)));
+}
+
+fn reported_first(alloc: Global) -> Result<bool, SimErr> {
     let rows = [
         ((1, number(0, i64::MIN)), (2, number(1, -1))),
         (
@@ -347,8 +361,12 @@ fn nothing_behind_a_report_is_done(rt: HostRuntime) -> Result<(), Fail> {
         ),
     ];
     let wanted = reported(3, FaultKind::DivOverflow, 2);
-    assert!(rt; holds(&rt, pair_row(rt.alloc(), &rows, wanted, b"")));
-    Ok(())
+    pair_row(alloc, &rows, wanted, b"")
+}
+
+#[test]
+fn nothing_behind_a_report_is_done(rt: HostRuntime) {
+    assert!(rt; matches!(reported_first(rt.alloc()), Ok(true)));
 }
 
 /// Whether 1, shifted by the count, prints so.
@@ -369,24 +387,32 @@ fn shifts(alloc: Global, size: Size, count: i64, text: &[u8]) -> Result<bool, Si
     row::<Four>(alloc, &rows, ended(0, 5), text)
 }
 
-#[test]
-fn shifts_of_four_bytes_take_their_count_modulo_32(rt: HostRuntime) -> Result<(), Fail> {
-    let alloc = rt.alloc();
-    assert!(rt; holds(&rt, shifts(alloc, Size::Four, 31, b"-2147483648")));
-    assert!(rt; holds(&rt, shifts(alloc, Size::Four, 32, b"1")));
-    assert!(rt; holds(&rt, shifts(alloc, Size::Four, 33, b"2")));
-    assert!(rt; holds(&rt, shifts(alloc, Size::Four, -1, b"-2147483648")));
-    Ok(())
+fn shifts_of_four(alloc: Global) -> Result<bool, SimErr> {
+    Ok(
+        shifts(alloc, Size::Four, 31, b"-2147483648")?
+            && shifts(alloc, Size::Four, 32, b"1")?
+            && shifts(alloc, Size::Four, 33, b"2")?
+            && shifts(alloc, Size::Four, -1, b"-2147483648")?,
+    )
 }
 
 #[test]
-fn shifts_of_eight_bytes_take_their_count_modulo_64(rt: HostRuntime) -> Result<(), Fail> {
-    let alloc = rt.alloc();
-    assert!(rt; holds(&rt, shifts(alloc, Size::Eight, 33, b"8589934592")));
-    assert!(rt; holds(&rt, shifts(alloc, Size::Eight, 63, b"-9223372036854775808")));
-    assert!(rt; holds(&rt, shifts(alloc, Size::Eight, 64, b"1")));
-    assert!(rt; holds(&rt, shifts(alloc, Size::Eight, -1, b"-9223372036854775808")));
-    Ok(())
+fn shifts_of_four_bytes_take_their_count_modulo_32(rt: HostRuntime) {
+    assert!(rt; matches!(shifts_of_four(rt.alloc()), Ok(true)));
+}
+
+fn shifts_of_eight(alloc: Global) -> Result<bool, SimErr> {
+    Ok(
+        shifts(alloc, Size::Eight, 33, b"8589934592")?
+            && shifts(alloc, Size::Eight, 63, b"-9223372036854775808")?
+            && shifts(alloc, Size::Eight, 64, b"1")?
+            && shifts(alloc, Size::Eight, -1, b"-9223372036854775808")?,
+    )
+}
+
+#[test]
+fn shifts_of_eight_bytes_take_their_count_modulo_64(rt: HostRuntime) {
+    assert!(rt; matches!(shifts_of_eight(rt.alloc()), Ok(true)));
 }
 
 /// Whether a `main` that prints a byte and calls itself comes so deep.
@@ -405,13 +431,17 @@ fn deepest(alloc: Global, frame: u32, calls: usize, cycles: u64) -> Result<bool,
     Ok(host.output().len() == calls && how == reported(3, FaultKind::StackOverflow, cycles))
 }
 
+fn deepest_calls(alloc: Global) -> Result<bool, SimErr> {
+    Ok(
+        deepest(alloc, 0, 4096, 12_288)?
+            && deepest(alloc, 262_144, 3, 9)?
+            && deepest(alloc, 261_120, 4, 12)?,
+    )
+}
+
 #[test]
-fn calls_go_4096_deep_and_frames_to_the_end_of_memory(rt: HostRuntime) -> Result<(), Fail> {
-    let alloc = rt.alloc();
-    assert!(rt; holds(&rt, deepest(alloc, 0, 4096, 12_288)));
-    assert!(rt; holds(&rt, deepest(alloc, 262_144, 3, 9)));
-    assert!(rt; holds(&rt, deepest(alloc, 261_120, 4, 12)));
-    Ok(())
+fn calls_go_4096_deep_and_frames_to_the_end_of_memory(rt: HostRuntime) {
+    assert!(rt; matches!(deepest_calls(rt.alloc()), Ok(true)));
 }
 
 /// A function that prints the first eight bytes of its frame, puts its first parameter there, and returns the second.
@@ -472,9 +502,8 @@ fn calls_twice(alloc: Global) -> Result<bool, SimErr> {
 }
 
 #[test]
-fn calls_pass_and_return_over_frames_of_zeros(rt: HostRuntime) -> Result<(), Fail> {
-    assert!(rt; holds(&rt, calls_twice(rt.alloc())));
-    Ok(())
+fn calls_pass_and_return_over_frames_of_zeros(rt: HostRuntime) {
+    assert!(rt; matches!(calls_twice(rt.alloc()), Ok(true)));
 }
 
 fn one_cycle(sim: &mut Sim<Narrow>, host: &mut MemHost) -> Result<Stepped, SimErr> {
@@ -538,7 +567,6 @@ fn tries_again(alloc: Global) -> Result<bool, SimErr> {
 }
 
 #[test]
-fn a_cycle_that_fails_can_be_done_again(rt: HostRuntime) -> Result<(), Fail> {
-    assert!(rt; holds(&rt, tries_again(rt.alloc())));
-    Ok(())
+fn a_cycle_that_fails_can_be_done_again(rt: HostRuntime) {
+    assert!(rt; matches!(tries_again(rt.alloc()), Ok(true)));
 }

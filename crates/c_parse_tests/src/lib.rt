@@ -1,5 +1,0 @@
-//! Tests of the parser on sources.
-#![tactic(auto)]
-
-#[cfg(test)]
-mod tests;

@@ -1,0 +1,142 @@
+use crate::calls::{Line, note, read_line, words};
+use crate::cases::{Asked, Case, case_of, text_of};
+use crate::command::Command;
+use crate::plan::Plan;
+use crate::unread::{Unread, unreadable};
+use ib_base::MemHost;
+use std::alloc::{AllocError, Global};
+
+/// How many calls a case has, and what did not come out as stated.
+#[derive(Drop)]
+pub(crate) struct Found {
+    pub calls: u64,
+    pub wrong: Vec<String>,
+}
+
+/// Tries the calls of a case, each over a host of its own. A case without calls is not as stated.
+pub(crate) fn tried<C: Command>(alloc: Global, command: &C, plan: &Plan) -> Result<Found, Unread> {
+    let case = case_of(alloc, plan.body.as_str())?;
+    let mut found = Found {
+        calls: 0,
+        wrong: Vec::new(alloc),
+    };
+    for call in &case.calls {
+        found.calls = found.calls.saturating_add(1);
+        if let Some(wrong) = difference(alloc, command, &case, call)? {
+            found.wrong.push(wrong)?;
+        }
+    }
+    if case.calls.is_empty() {
+        found.calls = 1;
+        found.wrong.push(String::from_str(alloc, "no call")?)?;
+    }
+    Ok(found)
+}
+
+/// Does a call, and says what is not as stated.
+fn difference<C: Command>(
+    alloc: Global,
+    command: &C,
+    case: &Case,
+    call: &Asked,
+) -> Result<Option<String>, Unread> {
+    let Some(line) = read_line(call.line.as_str()) else {
+        return Err(unreadable(&call.line));
+    };
+    let stated = note(alloc, line.note, &call.line)?;
+    let words = words(alloc, line.words)?;
+    let mut host = host(alloc, case, &line)?;
+    let status = command.call(alloc, words.as_slice(), &mut host);
+    drop(words);
+    Ok(first_wrong(alloc, call, &line, stated.as_slice(), status, &host)?)
+}
+
+/// A host with what is given.
+fn host(alloc: Global, case: &Case, line: &Line<'_>) -> Result<MemHost, AllocError> {
+    let input = text_of(&case.given, "input").unwrap_or(b"");
+    let mut host = MemHost::new(alloc, input)?;
+    for text in &case.given {
+        if text.key.as_str() != "input" {
+            host.add_file(text.key.as_str(), text.bytes.as_slice())?;
+        }
+    }
+    if let Some(failing) = line.failing {
+        host.fail_at(failing.call, failing.kept)?;
+    }
+    Ok(host)
+}
+
+/// What is not as stated, the first of it: the status, the note, the output, the input that is left, or a file.
+fn first_wrong(
+    alloc: Global,
+    call: &Asked,
+    line: &Line<'_>,
+    note: &[u8],
+    status: u8,
+    host: &MemHost,
+) -> Result<Option<String>, AllocError> {
+    if status != line.status {
+        return wrong_status(alloc, call, line.status, status, host);
+    }
+    let prints = text_of(&call.leaves, "prints").unwrap_or(b"");
+    let left = text_of(&call.leaves, "left").unwrap_or(host.input_left());
+    for (what, came, stated) in [
+        ("notes", host.notes(), note),
+        ("prints", host.output(), prints),
+        ("leaves", host.input_left(), left),
+    ] {
+        if came != stated {
+            return wrong(alloc, call, what, came, stated);
+        }
+    }
+    wrong_file(alloc, call, host)
+}
+
+fn wrong_file(alloc: Global, call: &Asked, host: &MemHost) -> Result<Option<String>, AllocError> {
+    for text in &call.leaves {
+        let name = text.key.as_str();
+        if name != "prints" && name != "left" {
+            let came = host.file(name).unwrap_or(b"(no file)");
+            if came != text.bytes.as_slice() {
+                return wrong(alloc, call, name, came, text.bytes.as_slice());
+            }
+        }
+    }
+    Ok(None)
+}
+
+fn wrong_status(
+    alloc: Global,
+    call: &Asked,
+    stated: u8,
+    came: u8,
+    host: &MemHost,
+) -> Result<Option<String>, AllocError> {
+    let notes = shown(alloc, host.notes())?;
+    let line = call.line.as_str();
+    let text = format!(in alloc; "{line}: status {came}, and not {stated}; notes {notes}")?;
+    Ok(Some(text))
+}
+
+/// What came in place of what is stated.
+fn wrong(
+    alloc: Global,
+    call: &Asked,
+    what: &str,
+    came: &[u8],
+    stated: &[u8],
+) -> Result<Option<String>, AllocError> {
+    let came = shown(alloc, came)?;
+    let stated = shown(alloc, stated)?;
+    let line = call.line.as_str();
+    let text = format!(in alloc; "{line}: {what} {came}, and not {stated}")?;
+    Ok(Some(text))
+}
+
+/// A text in quotes, cut off where it is long.
+fn shown(alloc: Global, bytes: &[u8]) -> Result<String, AllocError> {
+    let text = String::from_utf8_lossy(alloc, bytes.get(..160).unwrap_or(bytes))?;
+    let text = text.as_str();
+    let more = if bytes.len() > 160 { ".." } else { "" };
+    format!(in alloc; "{text:?}{more}")
+}

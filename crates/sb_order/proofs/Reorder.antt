@@ -1,15 +1,14 @@
 -- Any order of the items that keeps what depends on what does the same.
-use Rattle.std.proofs.Common.{◌≡◌, ℕ, Bool, true, false, ◌||◌, ◌==◌, List, [], ◌∷◌, ◌++◌, map, true≢false, Option, Some, None, refl, sym, ap, ◌∙◌, subst, if◌then◌else◌}
+use Rattle.std.proofs.Common.{◌≡◌, ℕ, Bool, true, false, ◌||◌, ◌==◌, List, [], ◌∷◌, ◌++◌, map, true≢false, Some, refl, sym, ◌∙◌, subst}
 use mathlib.Core.Path.{fun_ext}
 use Rattle.wide_core.specs.declared.code.WideOp.{WideOp}
-use Rattle.wide_core.specs.Operation.{Effect}
-use Rattle.wide_core.specs.Word.{Flow, Outcome, apply}
+use Rattle.wide_core.specs.Word.{Flow, apply}
 use Rattle.sb_order.specs.Spread.{reads, in_list}
-use Rattle.sb_order.specs.Flat.{one_effect, goes_on, flat, is_target, Every, Nil, Cons}
+use Rattle.sb_order.specs.Flat.{one_effect, flat, is_target, Every, Nil, Cons}
 use Rattle.sb_order.specs.Superblock.{written}
-use Rattle.sb_order.specs.Edges.{Base, Known, Item, items, base_in, learn, given_by}
+use Rattle.sb_order.specs.Edges.{Known, Item, items, base_in, learn}
 use Rattle.sb_order.specs.Order.{Free, Keeps, Empty, Bring}
-use Rattle.sb_order.proofs.Closed.{eq_same, eq_refl, is_the}
+use Rattle.sb_order.proofs.Closed.{eq_refl, is_the}
 use Rattle.sb_order.proofs.Sorted.{false_by}
 use Rattle.sb_order.proofs.Swap.{Like, like_refl, like_trans, goes_on_like}
 

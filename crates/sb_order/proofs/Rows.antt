@@ -1,5 +1,5 @@
 -- The definitions on small superblocks.
-use Rattle.std.proofs.Common.{◌≡◌, ℕ, zero, suc, ◌+◌, Bool, true, false, List, [], ◌∷◌, Some, pos, refl, if◌then◌else◌, ◌==◌}
+use Rattle.std.proofs.Common.{◌≡◌, ℕ, Bool, true, false, List, [], ◌∷◌, Some, pos, refl, if◌then◌else◌, ◌==◌}
 use Rattle.ib_meaning.specs.declared.place.Place.{Place}
 use Rattle.ib_base.specs.declared.integers.Width.TheVariants.{W4}
 use Rattle.ib_act.specs.declared.act.Size.TheVariants.{Four}

@@ -1,8 +1,6 @@
 -- Two items that are free of each other may change places.
-use Rattle.std.proofs.Common.{◌≡◌, ℕ, Bool, true, false, ◌&&◌, ◌||◌, not, ◌==◌, List, [], ◌∷◌, map, true≢false, Option, Some, None, ℤ, refl, sym, ap, ap₂, ◌∙◌, subst, if◌then◌else◌}
-use mathlib.Core.Path.{fun_ext}
+use Rattle.std.proofs.Common.{◌≡◌, ℕ, Bool, true, List, ◌∷◌, ℤ, refl, sym, ap, ◌∙◌, subst}
 use Rattle.ib_meaning.specs.declared.fault.FaultKind.{FaultKind}
-use Rattle.wide_core.specs.declared.code.Loc.{Loc}
 use Rattle.wide_core.specs.declared.code.Loc.TheVariants.{Reg}
 use Rattle.wide_core.specs.declared.code.Tagged.{Tagged}
 use Rattle.wide_core.specs.declared.code.WideOp.{WideOp}

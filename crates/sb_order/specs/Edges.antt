@@ -1,8 +1,6 @@
 -- What a schedule has to keep: the delays from each item to each later one.
-use Rattle.std.specs.Prelude.{◌≡◌, ℕ, ◌+◌, Bool, true, false, ◌&&◌, ◌||◌, not, ◌==◌, List, [], ◌∷◌, ◌++◌, Option, Some, None, if◌then◌else◌, ℤ, pos, ◌+ℤ◌, int_le}
+use Rattle.std.specs.Prelude.{ℕ, Bool, true, false, ◌&&◌, ◌||◌, not, ◌==◌, List, [], ◌∷◌, Option, Some, None, if◌then◌else◌, ℤ, pos, ◌+ℤ◌, int_le}
 use Rattle.machine_desc.specs.declared.machine.OpClass.{OpClass}
-use Rattle.machine_desc.specs.declared.machine.OpClass.TheVariants.{Control}
-use Rattle.ib_act.specs.declared.act.Act.{Act}
 use Rattle.ib_act.specs.declared.act.Act.TheVariants.{Const, FrameAddress, Load, Store}
 use Rattle.ib_act.specs.Acts.{bytes_in}
 use Rattle.wide_core.specs.declared.code.WideAct.{WideAct}

@@ -1,9 +1,11 @@
 -- Orders of items that keep what depends on what, and the theorem of the schedule.
-use Rattle.std.specs.Prelude.{◌≡◌, ℕ, suc, ◌≤◌, Bool, true, false, List, [], ◌∷◌, ◌++◌, Option, Some, None, ℤ, negsuc, pos, ◌≤ℤ◌}
+use Rattle.std.specs.Prelude.{◌≡◌, ℕ, Bool, true, false, List, [], ◌∷◌, ◌++◌, Some, FitsSigned}
+use Rattle.std.specs.Int.{w64}
 use Rattle.machine_desc.specs.declared.machine.OpClass.{OpClass}
 use Rattle.machine_desc.specs.Machine.{IsTable}
-use Rattle.ib_act.specs.declared.act.Act.{Act}
-use Rattle.ib_act.specs.declared.act.Act.TheVariants.{Load, Store}
+use Rattle.ib_act.specs.declared.act.Act.TheVariants.{Const, FrameAddress, Load, Store}
+use Rattle.ib_act.specs.Acts.{IsOffset}
+use Rattle.wide_core.specs.Classes.{is_register}
 use Rattle.wide_core.specs.declared.code.WideAct.{WideAct}
 use Rattle.wide_core.specs.declared.code.WideAct.TheVariants.{Do, Check}
 use Rattle.wide_core.specs.declared.code.WideOp.{WideOp}
@@ -11,7 +13,7 @@ use Rattle.wide_core.specs.Word.{Flow, Through}
 use Rattle.sb_order.specs.Spread.{reads, in_list, is_item}
 use Rattle.sb_order.specs.Flat.{at_exits, is_target, ends, flat, run_words, joined, Every}
 use Rattle.sb_order.specs.Superblock.{written, Plain, plain, FitsLive, Rises}
-use Rattle.sb_order.specs.Edges.{Item, Access, store_of, load_of, apart, is_member}
+use Rattle.sb_order.specs.Edges.{Item, apart, is_member}
 use Rattle.sb_order.specs.Schedule.{Spot, is_legal, scheduled, SameEvent, Starts}
 
 -- two items that may change places
@@ -36,21 +38,30 @@ pub data EndsLast : List WideOp → Type 0 where
   TheLast : (op : WideOp) → ends op.act ≡ true → EndsLast (op ∷ [])
   NotLast : (op : WideOp) (ops : List WideOp) → ends op.act ≡ false → EndsLast ops → EndsLast (op ∷ ops)
 
--- by rule 10 of lowered programs; without it two disjoint ranges may overlap once their addresses wrap
-pub record NearBase (op : WideOp) : Type 0 where
-  pub stored : (a : Access) → store_of op.act ≡ Some a → (negsuc 1048575 ≤ℤ a.offset) × (a.offset ≤ℤ pos 1048576)
-  pub loaded : (a : Access) → load_of op.act ≡ Some a → (negsuc 1048575 ≤ℤ a.offset) × (a.offset ≤ℤ pos 1048576)
+-- numbers that an operation holds: an access's offset is within 2 ^ 20 of 0, since two disjoint ranges may else overlap
+-- once their addresses wrap; constants and a frame's offsets are signed numbers of 64 bits
+abbrev pub InRange : WideAct → Type 0
+InRange (Do (Const to value)) = FitsSigned w64 value
+InRange (Do (FrameAddress to offset)) = FitsSigned w64 offset
+InRange (Do (Load width to base offset)) = IsOffset offset
+InRange (Do (Store width base offset from)) = IsOffset offset
+InRange act = Unit {0}
+
+pub record IsOperation (op : WideOp) : Type 0 where
+  pub item : is_item op.act ≡ true
+  pub flag : op.flagged ≡ true → is_register op.act ≡ true
+  pub in_range : InRange op.act
 
 -- what `form` gives: no spill, reload or check
 pub record IsSource (op : WideOp) : Type 0 where
   pub item : is_item op.act ≡ true
   pub no_check : (r : ℕ) → op.act ≡ Check r → ⊥
+  pub in_range : InRange op.act
 
 pub record IsSuperblock (heads : ℕ → ℕ → Bool) (head : ℕ) (ops : List WideOp) : Type 0 where
   pub rises : Rises 1 ops
   pub fits : FitsLive heads head ops
   pub last : EndsLast ops
-  pub near : Every NearBase ops
   pub sources : Every IsSource ops
 
 -- over the items one after the other: what the simulation of allocation begins with

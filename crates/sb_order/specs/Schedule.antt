@@ -1,5 +1,5 @@
 -- Legal and tight spots, and the words that they give.
-use Rattle.std.specs.Prelude.{◌≡◌, ℕ, zero, suc, ◌+◌, Bool, true, false, ◌&&◌, ◌||◌, not, ◌==◌, nat_le, nat_lt, List, [], ◌∷◌, ◌++◌, map, Option, Some, None, if◌then◌else◌, ℤ}
+use Rattle.std.specs.Prelude.{◌≡◌, ℕ, zero, suc, ◌+◌, Bool, true, false, ◌&&◌, ◌||◌, not, ◌==◌, nat_le, nat_lt, List, [], ◌∷◌, ◌++◌, if◌then◌else◌, ℤ}
 use Rattle.ib_meaning.specs.declared.fault.FaultKind.{FaultKind}
 use Rattle.machine_desc.specs.declared.machine.OpClass.{OpClass}
 use Rattle.machine_desc.specs.declared.machine.OpClass.TheVariants.{Alu, Mul, Mem, Io, Control}
@@ -9,8 +9,8 @@ use Rattle.wide_core.specs.declared.code.WideOp.{WideOp}
 use Rattle.wide_core.specs.Classes.{class_of}
 use Rattle.wide_core.specs.Operation.{Exit}
 use Rattle.wide_core.specs.Word.{Flow, Outcome, Through, Gone, Left, Stopped}
-use Rattle.sb_order.specs.Flat.{at_exit, run_words}
-use Rattle.sb_order.specs.Superblock.{Plain, Event, End, ByExit, ByReturn, ByFault, plain, checked, checks_of, needs_check, FitsLive, Rises}
+use Rattle.sb_order.specs.Flat.{at_exit}
+use Rattle.sb_order.specs.Superblock.{Plain, Event, End, ByExit, ByReturn, ByFault, checked, checks_of, needs_check}
 use Rattle.sb_order.specs.Edges.{Item, items, at_head, Row, rows, is_control}
 
 -- ---- the items: in place of a struck check its operation without the flag

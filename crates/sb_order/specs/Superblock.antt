@@ -4,12 +4,12 @@ use Rattle.ib_meaning.specs.declared.fault.FaultKind.{FaultKind}
 use Rattle.ib_act.specs.declared.act.Act.{Act}
 use Rattle.ib_act.specs.declared.act.Act.TheVariants.{Bounds, Div, Rem, Load}
 use Rattle.wide_core.specs.declared.code.Loc.{Loc}
-use Rattle.wide_core.specs.declared.code.Loc.TheVariants.{Reg, Slot}
+use Rattle.wide_core.specs.declared.code.Loc.TheVariants.{Reg}
 use Rattle.wide_core.specs.declared.code.WideAct.{WideAct}
 use Rattle.wide_core.specs.declared.code.WideAct.TheVariants.{Do, Check, Call}
 use Rattle.wide_core.specs.declared.code.WideOp.{WideOp}
 use Rattle.wide_core.specs.Classes.{is_register}
-use Rattle.wide_core.specs.Operation.{Exit, Effect, Nothing, Write, Save, Take, Print, Go, Leave, Stop, sources, own, does}
+use Rattle.wide_core.specs.Operation.{Exit, Effect, Write, Save, Take, Print, Go, Leave, Stop, sources, own, does}
 use Rattle.wide_core.specs.Places.{put}
 use Rattle.wide_core.specs.Tagged.{number_of}
 use Rattle.wide_core.specs.Word.{byte_from, behind_byte, saved}

@@ -159,7 +159,7 @@ module _ (heads : ℕ → ℕ → Bool) (base : ℕ) (room : ℕ → Bool) where
   unfolding effect_on
   made_on op r s i h = made_by op.act op op.number r s i h
 
-  suits : (op : WideOp) (s : Flow) → IsOperation op → Suits heads op.act (one_effect base room op s)
+  pub suits : (op : WideOp) (s : Flow) → IsOperation op → Suits heads op.act (one_effect base room op s)
   suits op s w = suits_on heads op (around base room s) (map s.places (sources op.act)) w.item w.flag
 
   -- behind an operation what is known then holds

@@ -153,13 +153,13 @@ not_wrapped z at near e small =
     let high = near.most in
     by_lt_z {P = z ≡ pos at} z (negsuc 9223372036854775807)
     (λ f.
-        let h = int_wrap_fits w64 (z +ℤ turn) (omega (arith, ints)) in
-        let j : z +ℤ turn ≡ pos at = sym h ∙ wrap_up z ∙ e in absurd (omega (arith, ints)))
+    let h = int_wrap_fits w64 (z +ℤ turn) (omega (arith, ints)) in
+    let j : z +ℤ turn ≡ pos at = sym h ∙ wrap_up z ∙ e in absurd (omega (arith, ints)))
     (λ f. by_lt_z {P = z ≡ pos at} (pos 9223372036854775807) z
-        (λ g.
-            let h = int_wrap_fits w64 (z -ℤ turn) (omega (arith, ints)) in
-            let j : z -ℤ turn ≡ pos at = sym h ∙ wrap_down z ∙ e in absurd (omega (arith, ints)))
-        (λ g. sym (int_wrap_fits w64 z (omega (arith, ints))) ∙ e))
+    (λ g.
+    let h = int_wrap_fits w64 (z -ℤ turn) (omega (arith, ints)) in
+    let j : z -ℤ turn ≡ pos at = sym h ∙ wrap_down z ∙ e in absurd (omega (arith, ints)))
+    (λ g. sym (int_wrap_fits w64 z (omega (arith, ints))) ∙ e))
 
 -- two addresses of accesses are as far apart as the numbers that they were made from
 pub far_apart : (x y : ℤ) (n m : ℕ) (a b : ℤ) → a ≡ int_wrap w64 x → b ≡ int_wrap w64 y → IsNear x → IsNear y → AreApart x n y m → can_access a n ≡ true → can_access b m ≡ true → AreApart a n b m

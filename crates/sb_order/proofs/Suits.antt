@@ -86,14 +86,14 @@ pub record Writes (act : WideAct) (e : Effect) : Type 0 where
   pub to : writes_now act ≡ Some d
   pub is : e ≡ Write (Reg d) v
 
-always_writes : (act : Act) (o : Option ℕ) → act_target act ≡ o → is_register_act act ≡ true → (d : ℕ) × (o ≡ Some d)
+pub always_writes : (act : Act) (o : Option ℕ) → act_target act ≡ o → is_register_act act ≡ true → (d : ℕ) × (o ≡ Some d)
 always_writes act (Some d) e r = (d, refl)
 always_writes (Store w a o b) None e r = cc
 always_writes (PutByte a) None e r = cc
 always_writes (PutNumber a) None e r = cc
 always_writes act None e r = cc
 
-register_does : (act : Act) (x v : ℤ) → is_register_act act ≡ true → does_act act x v ≡ writes (act_target act) v
+pub register_does : (act : Act) (x v : ℤ) → is_register_act act ≡ true → does_act act x v ≡ writes (act_target act) v
 register_does (Store w a o b) x v r = cc
 register_does (Get d) x v r = cc
 register_does (PutByte a) x v r = cc

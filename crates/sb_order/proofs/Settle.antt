@@ -155,7 +155,7 @@ by_tags op around values i = tags op.act i
     tags (Reload d n) i = cc
     tags act i = refl
 
-in_front : (x : ℕ) (xs : List ℕ) → in_list x (x ∷ xs) ≡ true
+pub in_front : (x : ℕ) (xs : List ℕ) → in_list x (x ∷ xs) ≡ true
 in_front x xs = rw (eq_refl x) refl
 
 module _ (n : ℕ) (k : FaultKind) (f : Loc → Tagged) where
@@ -192,7 +192,7 @@ module _ (heads : ℕ → ℕ → Bool) (base : ℕ) (room : ℕ → Bool) (n : 
       by_one true i = rw i (g (rw i at e))
       by_one false i = rw i (h q (rw i at e))
 
-  later_put : (r q : ℕ) (v : Tagged) (f : Loc → Tagged) → Later n k v → ((q == r) ≡ false → Later n k (f (Reg q))) → Later n k (put (Reg r) v f (Reg q))
+  pub later_put : (r q : ℕ) (v : Tagged) (f : Loc → Tagged) → Later n k v → ((q == r) ≡ false → Later n k (f (Reg q))) → Later n k (put (Reg r) v f (Reg q))
   later_put r q v f h g = by_one (q == r) refl
     where
       by_one : (d : Bool) → (q == r) ≡ d → Later n k (put (Reg r) v f (Reg q))

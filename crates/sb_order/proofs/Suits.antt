@@ -43,7 +43,7 @@ module _ (heads : ℕ → ℕ → Bool) where
   suits_if act true e f g h = g
   suits_if act false e f g h = h
 
-  suits_does : (act : WideAct) (ns : List ℤ) (v : ℤ) → is_item act ≡ true → Suits act (does act ns v)
+  pub suits_does : (act : WideAct) (ns : List ℤ) (v : ℤ) → is_item act ≡ true → Suits act (does act ns v)
   suits_does (Do act) ns v i = suits_act act _ v
   suits_does (Spill n a) ns v i = cc
   suits_does (Reload d n) ns v i = cc

@@ -164,7 +164,7 @@ module _ (heads : ℕ → ℕ → Bool) (base : ℕ) (room : ℕ → Bool) where
       ∙ ap (λ y. shown op.act (map u.places (sources op.act)) (evaluated op.flagged op.number (Clear (pos 0)) (own op.act base y room (map u.places (sources op.act))))) m
 
   -- checks of an operation that did not fault pass
-  check_passes : (m : ℕ) (home : Place) (d : ℕ) (v : ℤ) (l : List WideOp) (s : Flow) → flat base room (record { number = m; home = home; flagged = false; act = Check d } ∷ l) (apply (Write (Reg d) (Clear v)) s) ≡ flat base room l (apply (Write (Reg d) (Clear v)) s)
+  pub check_passes : (m : ℕ) (home : Place) (d : ℕ) (v : ℤ) (l : List WideOp) (s : Flow) → flat base room (record { number = m; home = home; flagged = false; act = Check d } ∷ l) (apply (Write (Reg d) (Clear v)) s) ≡ flat base room l (apply (Write (Reg d) (Clear v)) s)
   check_passes m home d v l s =
       ap (λ e. goes_on base room e (flat base room l) (apply (Write (Reg d) (Clear v)) s))
       (ap (λ t. effect_on (record { number = m; home = home; flagged = false; act = Check d }) (around base room (apply (Write (Reg d) (Clear v)) s)) (t ∷ [])) (put_same d (Clear v) s.places)

@@ -1,5 +1,5 @@
 -- Orders of items that keep what depends on what, and the theorem of the schedule.
-use Rattle.std.specs.Prelude.{◌≡◌, ℕ, Bool, true, false, List, [], ◌∷◌, ◌++◌, Some, FitsSigned}
+use Rattle.std.specs.Prelude.{◌≡◌, ℕ, ◌≤◌, Bool, true, false, List, [], ◌∷◌, ◌++◌, Some, FitsSigned}
 use Rattle.std.specs.Int.{w64}
 use Rattle.machine_desc.specs.declared.machine.OpClass.{OpClass}
 use Rattle.machine_desc.specs.Machine.{IsTable}
@@ -59,19 +59,19 @@ pub record IsSource (op : WideOp) : Type 0 where
   pub in_range : InRange op.act
 
 pub record IsSuperblock (heads : ℕ → ℕ → Bool) (head : ℕ) (ops : List WideOp) : Type 0 where
-  pub rises : Rises 1 ops
+  pub rises : Rises 0 ops
   pub fits : FitsLive heads head ops
   pub last : EndsLast ops
   pub sources : Every IsSource ops
 
--- over the items one after the other: what the simulation of allocation begins with
+-- over the items one after the other, in a frame that begins in memory: what the simulation of allocation begins with
 unfoldable pub FlatInvisible : (heads : ℕ → ℕ → Bool) (one : Bool) (width regs : ℕ) (units latency : OpClass → ℕ) (base : ℕ) (room : ℕ → Bool) → Type 0
 FlatInvisible heads one width regs units latency base room =
-    IsTable width regs units latency → (head : ℕ) (ops : List WideOp) (struck : ℕ → Bool) (spot : ℕ → Spot) → IsSuperblock heads head ops → is_legal heads one width units latency ops struck spot ≡ true
+    IsTable width regs units latency → base ≤ 1048576 → (head : ℕ) (ops : List WideOp) (struck : ℕ → Bool) (spot : ℕ → Spot) → IsSuperblock heads head ops → is_legal heads one width units latency ops struck spot ≡ true
     → (s : Flow) (u : Plain) → Starts heads head s u → SameEvent heads (flat base room (joined (scheduled ops struck spot)) s) (plain base room ops u)
 
 -- over the words
 unfoldable pub Invisible : (heads : ℕ → ℕ → Bool) (one : Bool) (width regs : ℕ) (units latency : OpClass → ℕ) (base : ℕ) (room : ℕ → Bool) → Type 0
 Invisible heads one width regs units latency base room =
-    IsTable width regs units latency → (head : ℕ) (ops : List WideOp) (struck : ℕ → Bool) (spot : ℕ → Spot) → IsSuperblock heads head ops → is_legal heads one width units latency ops struck spot ≡ true
+    IsTable width regs units latency → base ≤ 1048576 → (head : ℕ) (ops : List WideOp) (struck : ℕ → Bool) (spot : ℕ → Spot) → IsSuperblock heads head ops → is_legal heads one width units latency ops struck spot ≡ true
     → (s : Flow) (u : Plain) → Starts heads head s u → SameEvent heads (run_words base room one (scheduled ops struck spot) (λ t. Through t) s) (plain base room ops u)

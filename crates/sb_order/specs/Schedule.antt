@@ -1,5 +1,5 @@
 -- Legal and tight spots, and the words that they give.
-use Rattle.std.specs.Prelude.{◌≡◌, ℕ, zero, suc, ◌+◌, Bool, true, false, ◌&&◌, ◌||◌, not, ◌==◌, nat_le, nat_lt, List, [], ◌∷◌, ◌++◌, if◌then◌else◌, ℤ}
+use Rattle.std.specs.Prelude.{◌≡◌, ℕ, zero, suc, ◌+◌, ◌≤◌, length, Bool, true, false, ◌&&◌, ◌||◌, not, ◌==◌, nat_le, nat_lt, List, [], ◌∷◌, ◌++◌, if◌then◌else◌, ℤ}
 use Rattle.ib_meaning.specs.declared.fault.FaultKind.{FaultKind}
 use Rattle.machine_desc.specs.declared.machine.OpClass.{OpClass}
 use Rattle.machine_desc.specs.declared.machine.OpClass.TheVariants.{Alu, Mul, Mem, Io, Control}
@@ -167,7 +167,8 @@ pub data SameEvent (heads : ℕ → ℕ → Bool) : Outcome → Event → Type 0
   AtReturn : (z : ℤ) (s : Flow) (u : Plain) → Matches s u → SameEvent heads (Left z s) (ByReturn z u)
   AtFault : (n : ℕ) (k : FaultKind) (s : Flow) (u : Plain) → Matches s u → SameEvent heads (Stopped n k s) (ByFault n k u)
 
--- the start: what is live at the head is clear, and the same
+-- the start: the memory is whole, and what is live at the head is clear, and the same
 pub record Starts (heads : ℕ → ℕ → Bool) (head : ℕ) (s : Flow) (u : Plain) : Type 0 where
+  pub whole : 1048576 ≤ length s.memory
   pub matches : Matches s u
   pub clear : (r : ℕ) → heads head r ≡ true → s.places (Reg r) ≡ Clear (u.places (Reg r))

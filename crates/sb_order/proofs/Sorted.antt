@@ -19,13 +19,13 @@ true_by true h = refl
 true_by false h = absurd (h refl)
 
 module _ (heads : ℕ → ℕ → Bool) (one : Bool) (width : ℕ) (units latency : OpClass → ℕ) (takes_time : (class : OpClass) → 1 ≤ latency class) (spot : ℕ → Spot) where
-  abbrev Clo : Item → Item → Type 0
+  abbrev pub Clo : Item → Item → Type 0
   Clo = Closed heads one width units latency takes_time spot
 
-  abbrev Bef : Item → Item → Type 0
+  abbrev pub Bef : Item → Item → Type 0
   Bef = Before heads one width units latency takes_time spot
 
-  not_sooner : {x y : Item} → (Bef x y → ⊥) → Sooner heads one width units latency takes_time spot x y → ⊥
+  pub not_sooner : {x y : Item} → (Bef x y → ⊥) → Sooner heads one width units latency takes_time spot x y → ⊥
   not_sooner h s = h (before_of heads one width units latency takes_time spot s)
 
   -- where the later of two does not come behind the other, they are free of each other
@@ -66,11 +66,11 @@ module _ (heads : ℕ → ℕ → Bool) (one : Bool) (width : ℕ) (units latenc
   sorted_ops [] = refl
   sorted_ops (i ∷ is) = put_ops i (sorted_items is) ∙ ap (insert spot i.op) (sorted_ops is)
 
-  record Order (a b : Item) : Type 0 where
-    cycles : (spot a.op.number).cycle ≤ (spot b.op.number).cycle
-    slots : (spot a.op.number).cycle ≡ (spot b.op.number).cycle → (spot a.op.number).slot < (spot b.op.number).slot
+  pub record Order (a b : Item) : Type 0 where
+    pub cycles : (spot a.op.number).cycle ≤ (spot b.op.number).cycle
+    pub slots : (spot a.op.number).cycle ≡ (spot b.op.number).cycle → (spot a.op.number).slot < (spot b.op.number).slot
 
-  earlier_is : (a b : Item) → earlier spot a.op b.op ≡ true → Order a b
+  pub earlier_is : (a b : Item) → earlier spot a.op b.op ≡ true → Order a b
   earlier_is a b e = by_one (nat_lt (spot a.op.number).cycle (spot b.op.number).cycle) refl
     where
       by_one : (d : Bool) → nat_lt (spot a.op.number).cycle (spot b.op.number).cycle ≡ d → Order a b
@@ -93,7 +93,7 @@ module _ (heads : ℕ → ℕ → Bool) (one : Bool) (width : ℕ) (units latenc
   every_sorted Nil = Nil
   every_sorted (Cons a l p ps) = every_put a p (every_sorted ps)
 
-  not_before : {a i : Item} → Order a i → Bef i a → ⊥
+  pub not_before : {a i : Item} → Order a i → Bef i a → ⊥
   not_before {a} {i} o b =
       let h = o.cycles in
       let g = b.cycles in

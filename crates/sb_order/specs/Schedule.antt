@@ -132,14 +132,14 @@ module _ (spot : ℕ → Spot) where
   sorted [] = []
   sorted (i ∷ is) = insert i (sorted is)
 
+  abbrev pub cut_behind : WideOp → List WideOp → List WideOp
+  cut_behind op [] = if is_control op.act then op ∷ [] else []
+  cut_behind op (next ∷ rest) = op ∷ next ∷ rest
+
   -- nothing stands behind the last control operation
   abbrev pub cut : List WideOp → List WideOp
   cut [] = []
-  cut (op ∷ ops) = more (cut ops)
-    where
-      more : List WideOp → List WideOp
-      more [] = if is_control op.act then op ∷ [] else []
-      more (next ∷ rest) = op ∷ next ∷ rest
+  cut (op ∷ ops) = cut_behind op (cut ops)
 
   -- neighbours of one cycle share a word
   abbrev pub joined_to : WideOp → List (List WideOp) → List (List WideOp)

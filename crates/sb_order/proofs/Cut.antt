@@ -1,5 +1,5 @@
 -- What is cut off behind the last control operation is never done.
-use Rattle.std.proofs.Common.{◌≡◌, ℕ, suc, ◌+◌, ◌≤◌, Bool, true, false, ◌&&◌, not, List, [], ◌∷◌, ◌++◌, map, true≢false, Option, Some, None, if◌then◌else◌, refl, sym, ap, ◌∙◌, subst}
+use Rattle.std.proofs.Common.{◌≡◌, ℕ, ◌≤◌, Bool, true, false, ◌&&◌, not, List, [], ◌∷◌, ◌++◌, map, true≢false, if◌then◌else◌, refl, sym, ap, ◌∙◌, subst}
 use mathlib.Core.Path.{fun_ext}
 use Rattle.machine_desc.specs.declared.machine.OpClass.{OpClass}
 use Rattle.wide_core.specs.declared.code.WideAct.{WideAct}
@@ -9,16 +9,16 @@ use Rattle.wide_core.specs.Classes.{is_register}
 use Rattle.wide_core.specs.Operation.{Effect, Nothing, Write, Save, Take, Print, Go, Leave, Stop}
 use Rattle.wide_core.specs.Word.{Flow, Outcome}
 use Rattle.sb_order.specs.Flat.{one_effect, goes_on, flat, ends, Every, Nil, Cons}
-use Rattle.sb_order.specs.Superblock.{written, traps, needs_check, check_of, checked, Plain, plain, Rises, RisesBy}
+use Rattle.sb_order.specs.Superblock.{written, traps, needs_check, check_of, checked, plain, Rises, RisesBy}
 use Rattle.sb_order.specs.Edges.{Item, Known, items, learn, at_head, is_control, is_member}
-use Rattle.sb_order.specs.Schedule.{unflagged, with_struck, Spot, earlier, sorted, cut, cut_behind, is_legal, SameEvent, Starts}
-use Rattle.sb_order.specs.Order.{IsOperation, IsSource, IsSuperblock, EndsLast, TheLast, NotLast, FlatInvisible}
+use Rattle.sb_order.specs.Schedule.{unflagged, with_struck, Spot, earlier, sorted, cut, cut_behind, SameEvent}
+use Rattle.sb_order.specs.Order.{IsOperation, IsSource, EndsLast, TheLast, NotLast, FlatInvisible}
 use Rattle.sb_order.proofs.Closed.{AllClosed, AllNone, AllMore, all_closed}
 use Rattle.sb_order.proofs.Joined.{joined_scheduled}
 use Rattle.sb_order.proofs.Sorted.{Clo, put_item, sorted_items, sorted_ops, earlier_is, not_before, every_put, every_sorted}
-use Rattle.sb_order.proofs.Suits.{Suits, AsNothing, AsWrite, AsSave, AsTake, AsPrint, AsGo, AsLeave, AsStop}
+use Rattle.sb_order.proofs.Suits.{Suits, AsNothing, AsWrite, AsSave, AsTake, AsPrint}
 use Rattle.sb_order.proofs.Holds.{suits}
-use Rattle.sb_order.proofs.Speculation.{operations, ops_items, edges, sorted_event}
+use Rattle.sb_order.proofs.Speculation.{ops_items, edges, sorted_event}
 
 -- the last item always leaves
 pub data LastEnds : List Item → Type 0 where
@@ -30,7 +30,7 @@ pub data Closes : List Item → Type 0 where
   CloseHere : (z : Item) (post : List Item) → IsOperation z.op → ends z.op.act ≡ true → Every (λ (i : Item). is_control i.op.act ≡ false) post → Closes (z ∷ post)
   CloseLater : (a : Item) (l : List Item) → Closes l → Closes (a ∷ l)
 
-ends_control : (act : WideAct) → ends act ≡ true → is_control act ≡ true
+pub ends_control : (act : WideAct) → ends act ≡ true → is_control act ≡ true
 ends_control (Jump w) e = refl
 ends_control (Call result func next args) e = refl
 ends_control (Return a) e = refl

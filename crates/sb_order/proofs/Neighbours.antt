@@ -1,5 +1,5 @@
 -- Two items that are free of each other neither feel nor hinder each other, so they may change places.
-use Rattle.std.proofs.Common.{◌≡◌, ℕ, ◌+◌, ◌≤◌, Bool, true, false, ◌&&◌, ◌||◌, not, ◌==◌, List, [], ◌∷◌, ◌++◌, length, map, true≢false, Option, Some, None, Result, Ok, Err, if◌then◌else◌, refl, sym, ap, ap₂, ◌∙◌, subst, ℤ, pos, ◌+ℤ◌}
+use Rattle.std.proofs.Common.{◌≡◌, ℕ, ◌≤◌, Bool, true, false, ◌&&◌, ◌||◌, not, ◌==◌, List, [], ◌∷◌, ◌++◌, map, true≢false, Option, Some, None, Result, Ok, Err, if◌then◌else◌, refl, sym, ap, ap₂, ◌∙◌, subst, ℤ, ◌+ℤ◌}
 use Rattle.std.specs.Int.{w64, cast_unsigned}
 use mathlib.Core.Path.{fun_ext}
 use Rattle.ib_meaning.specs.declared.fault.FaultKind.{FaultKind}
@@ -15,22 +15,20 @@ use Rattle.wide_core.specs.declared.code.Tagged.TheVariants.{Clear, Mark}
 use Rattle.wide_core.specs.declared.code.WideAct.{WideAct}
 use Rattle.wide_core.specs.declared.code.WideAct.TheVariants.{Do, Spill, Reload, Check, Jump, Branch, BranchZero, Call, Return}
 use Rattle.wide_core.specs.declared.code.WideOp.{WideOp}
-use Rattle.wide_core.specs.declared.tags.Done.{Done}
-use Rattle.wide_core.specs.declared.tags.Done.TheVariants.{Value, Marked, Report}
 use Rattle.wide_core.specs.Classes.{is_register}
 use Rattle.wide_core.specs.Tagged.{number_of, least_mark, evaluated}
-use Rattle.wide_core.specs.Places.{put, same_loc}
-use Rattle.wide_core.specs.Operation.{reg_if, reg_of, sources, target, Exit, Effect, Nothing, Write, Save, Take, Print, Go, Leave, Stop, first_of, own, is_zero, writes, does_act, does, keeps_mark, shown, Around, effect_by, effect_on}
+use Rattle.wide_core.specs.Places.{put}
+use Rattle.wide_core.specs.Operation.{reg_if, sources, target, Exit, Effect, Nothing, Write, Save, Take, Print, Go, Leave, Stop, first_of, own, is_zero, writes, does_act, does, keeps_mark, shown, Around, effect_by, effect_on}
 use Rattle.wide_core.specs.Word.{Flow, apply, byte_from, behind_byte}
-use Rattle.sb_order.specs.Spread.{reads, writes_now, is_item, in_list, opt_list}
+use Rattle.sb_order.specs.Spread.{reads, is_item, in_list, opt_list}
 use Rattle.sb_order.specs.Flat.{around, one_effect, is_target, at_exit, at_exits, flat}
 use Rattle.sb_order.specs.Superblock.{written}
-use Rattle.sb_order.specs.Edges.{Base, Known, Item, base_in, Access, store_of, load_of, apart, apart_at, same_root, disjoint, is_member}
+use Rattle.sb_order.specs.Edges.{Base, Known, Item, base_in, store_of, load_of, apart, apart_at, same_root, disjoint, is_member}
 use Rattle.sb_order.specs.Order.{InRange, IsOperation, Free}
 use Rattle.sb_order.proofs.Closed.{eq_same, eq_refl, is_the, target_is, both}
-use Rattle.sb_order.proofs.Memory.{kept, loaded_kept, AreApart}
-use Rattle.sb_order.proofs.Suits.{Suits, AsNothing, AsWrite, AsSave, AsTake, AsPrint, AsGo, AsLeave, AsStop, suits_on, written_on}
-use Rattle.sb_order.proofs.Holds.{Says, Holds, far_of, writes_written, put_other, other_than, suits}
+use Rattle.sb_order.proofs.Memory.{kept, loaded_kept}
+use Rattle.sb_order.proofs.Suits.{Suits, AsWrite, AsTake, AsGo, written_on}
+use Rattle.sb_order.proofs.Holds.{Holds, far_of, writes_written, put_other, other_than, suits}
 use Rattle.sb_order.proofs.Swap.{Like, like_sym, Apart, swap_apart}
 
 -- ---- what is read
@@ -197,7 +195,7 @@ module _ (heads : ℕ → ℕ → Bool) (base : ℕ) (low : base ≤ 1048576) (r
     pub first_base : a.base ≡ base_in k (reads a.op.act)
     pub second_base : i.base ≡ base_in k (reads i.op.act)
 
-  same_values : (act : WideAct) (d : ℕ) (v : Tagged) (f : Loc → Tagged) → is_item act ≡ true → in_list d (reads act) ≡ false → map (put (Reg d) v f) (sources act) ≡ map f (sources act)
+  pub same_values : (act : WideAct) (d : ℕ) (v : Tagged) (f : Loc → Tagged) → is_item act ≡ true → in_list d (reads act) ≡ false → map (put (Reg d) v f) (sources act) ≡ map f (sources act)
   same_values act d v f i h =
       let src = sources_read act i in ap (map (put (Reg d) v f)) src ∙ values_put d v f (reads act) h ∙ ap (map f) (sym src)
 
@@ -236,17 +234,17 @@ module _ (heads : ℕ → ℕ → Bool) (base : ℕ) (low : base ≤ 1048576) (r
   write_swap d v act s (Leave z) h u = refl
   write_swap d v act s (Stop n k) h u = refl
 
-  not_true : (a : Bool) → not a ≡ false → a ≡ true
+  pub not_true : (a : Bool) → not a ≡ false → a ≡ true
   not_true true e = refl
   not_true false e = absurd (true≢false e)
 
   both_back : {k : Known} {a i : Item} → Both k a i → Both k i a
   both_back b = record { first = b.second; second = b.first; first_base = b.second_base; second_base = b.first_base }
 
-  exits : (act : WideAct) (x : Exit) → Suits heads act (Go x) → (r : ℕ) → at_exit heads x r ≡ true → at_exits heads act r ≡ true
+  pub exits : (act : WideAct) (x : Exit) → Suits heads act (Go x) → (r : ℕ) → at_exit heads x r ≡ true → at_exits heads act r ≡ true
   exits act x (AsGo x2 w can g) r l = g r l
 
-  spared_other : (f : ℕ → Bool) (d r : ℕ) → f d ≡ false → f r ≡ true → (r == d) ≡ false
+  pub spared_other : (f : ℕ → Bool) (d r : ℕ) → f d ≡ false → f r ≡ true → (r == d) ≡ false
   spared_other f d r e g = by_one (r == d) refl
     where
       by_one : (b : Bool) → (r == d) ≡ b → (r == d) ≡ false

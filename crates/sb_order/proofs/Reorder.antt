@@ -27,7 +27,7 @@ truthful_items k (Cons op ops w ws) = Speak k (record { op = op; base = base_in 
 learn_other : (op : WideOp) (k : Known) (r : ℕ) → is_target (written op.act) r ≡ false → learn op k r ≡ k r
 learn_other op k r e = rw e refl
 
-base_other : (op : WideOp) (k : Known) (rs : List ℕ) → ((r : ℕ) → written op.act ≡ Some r → in_list r rs ≡ false) → base_in (learn op k) rs ≡ base_in k rs
+pub base_other : (op : WideOp) (k : Known) (rs : List ℕ) → ((r : ℕ) → written op.act ≡ Some r → in_list r rs ≡ false) → base_in (learn op k) rs ≡ base_in k rs
 base_other op k [] h = refl
 base_other op k (r ∷ rs) h = learn_other op k r (false_by (is_target (written op.act) r) λ e. clash (h r (is_the (written op.act) r e)))
   where
@@ -47,13 +47,13 @@ module _ (heads : ℕ → ℕ → Bool) (base : ℕ) (low : base ≤ 1048576) (r
   abbrev pub ops : List Item → List WideOp
   ops is = map (λ (i : Item). i.op) is
 
-  base_first : {k : Known} {i : Item} {is : List Item} → Truthful k (i ∷ is) → i.base ≡ base_in k (reads i.op.act)
+  pub base_first : {k : Known} {i : Item} {is : List Item} → Truthful k (i ∷ is) → i.base ≡ base_in k (reads i.op.act)
   base_first (Speak k i is w e t) = e
 
-  is_first : {k : Known} {i : Item} {is : List Item} → Truthful k (i ∷ is) → IsOperation i.op
+  pub is_first : {k : Known} {i : Item} {is : List Item} → Truthful k (i ∷ is) → IsOperation i.op
   is_first (Speak k i is w e t) = w
 
-  truth_behind : {k : Known} {i : Item} {is : List Item} → Truthful k (i ∷ is) → Truthful (learn i.op k) is
+  pub truth_behind : {k : Known} {i : Item} {is : List Item} → Truthful k (i ∷ is) → Truthful (learn i.op k) is
   truth_behind (Speak k i is w e t) = t
 
   truth_front : {k : Known} {i : Item} {is js : List Item} → Truthful k (i ∷ is) → Truthful (learn i.op k) js → Truthful k (i ∷ js)

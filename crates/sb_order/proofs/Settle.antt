@@ -1,9 +1,8 @@
 -- A carrier holds the mark of the first fault until the next member of the chain settles it.
-use Rattle.std.proofs.Common.{◌≡◌, ℕ, suc, ◌+◌, ◌<◌, ◌≤◌, Bool, true, false, ◌&&◌, ◌||◌, not, ◌==◌, nat_lt, List, [], ◌∷◌, ◌++◌, map, true≢false, Option, Some, None, Result, Ok, Err, if◌then◌else◌, refl, sym, ap, ap₂, ◌∙◌, subst, arith, ℤ, pos}
+use Rattle.std.proofs.Common.{◌≡◌, ℕ, ◌<◌, ◌≤◌, Bool, true, false, ◌&&◌, ◌||◌, not, ◌==◌, nat_lt, List, [], ◌∷◌, map, Some, Result, Ok, Err, if◌then◌else◌, refl, sym, ap, ap₂, ◌∙◌, subst, arith, ℤ, pos}
 use Rattle.std.proofs.lemmas.Bool.Decides.{nat_tests}
 use Rattle.ib_meaning.specs.declared.fault.FaultKind.{FaultKind}
 use Rattle.ib_meaning.specs.FaultKind.{kind_number}
-use Rattle.ib_act.specs.declared.act.Act.{Act}
 use Rattle.ib_act.specs.Acts.{target as act_target}
 use Rattle.wide_core.specs.declared.code.Loc.{Loc}
 use Rattle.wide_core.specs.declared.code.Loc.TheVariants.{Reg}
@@ -12,17 +11,17 @@ use Rattle.wide_core.specs.declared.code.Tagged.TheVariants.{Clear, Mark}
 use Rattle.wide_core.specs.declared.code.WideAct.{WideAct}
 use Rattle.wide_core.specs.declared.code.WideAct.TheVariants.{Do, Spill, Reload}
 use Rattle.wide_core.specs.declared.code.WideOp.{WideOp}
-use Rattle.wide_core.specs.Classes.{is_register, is_register_act}
+use Rattle.wide_core.specs.Classes.{is_register}
 use Rattle.wide_core.specs.Tagged.{comes_before, first_mark, least_mark, number_of, evaluated}
 use Rattle.wide_core.specs.Places.{put}
 use Rattle.wide_core.specs.Operation.{reg_of, sources, target, Effect, Write, Stop, first_of, own, writes, does, keeps_mark, shown, Around, effect_by, effect_on}
-use Rattle.wide_core.specs.Word.{Flow, Outcome, Stopped, apply}
+use Rattle.wide_core.specs.Word.{Flow, Stopped, apply}
 use Rattle.sb_order.specs.Spread.{reads, is_item, in_list}
 use Rattle.sb_order.specs.Flat.{around, one_effect, goes_on, flat, is_target, at_exits}
 use Rattle.sb_order.specs.Superblock.{written, put_at, meets, settles, needs}
-use Rattle.sb_order.proofs.Closed.{eq_same, eq_refl, true_lt, both}
+use Rattle.sb_order.proofs.Closed.{eq_same, eq_refl, true_lt}
 use Rattle.sb_order.proofs.Suits.{always_writes, register_does}
-use Rattle.sb_order.proofs.Neighbours.{sources_read, eq_turned}
+use Rattle.sb_order.proofs.Neighbours.{sources_read}
 use Rattle.sb_order.proofs.Swap.{SameWorld}
 
 not_lt : (a b : ℕ) → b ≤ a → nat_lt a b ≡ false
@@ -225,7 +224,7 @@ module _ (heads : ℕ → ℕ → Bool) (base : ℕ) (room : ℕ → Bool) (n : 
       registers i more w =
           let rest = more (put_at (written op.act) (meets c (reads op.act)) c) (apply (Write (Reg w.to) w.value) s) (rw i at e) (behind_rest b)
           (λ q g. carried_put w.to q (meets c (reads op.act)) w.value c s.places carried
-              (λ m. w.carried (ap least_mark read ∙ least_is n k s.places c (reads op.act) carried read_later m)) (rw w.target at g))
+          (λ m. w.carried (ap least_mark read ∙ least_is n k s.places c (reads op.act) carried read_later m)) (rw w.target at g))
           (λ q g. later_put w.to q w.value s.places w.later (λ d. later q (needs_behind heads op ops q (rw (w.target, d) refl) g))) in
           record {
             after = rest.after;

@@ -1,6 +1,5 @@
 -- Speculation is invisible: the items in the order of a legal schedule come to the event of the source order.
-use Rattle.std.proofs.Common.{◌≡◌, ℕ, suc, ◌+◌, ◌<◌, ◌≤◌, Bool, true, false, ◌&&◌, ◌||◌, not, List, [], ◌∷◌, ◌++◌, map, true≢false, Option, Some, None, Result, Ok, Err, if◌then◌else◌, refl, sym, ap, ap₂, ◌∙◌, subst, ℤ, pos}
-use mathlib.Core.Path.{fun_ext}
+use Rattle.std.proofs.Common.{◌≡◌, ℕ, suc, ◌≤◌, Bool, true, false, ◌&&◌, not, List, [], ◌∷◌, ◌++◌, map, true≢false, Option, Some, None, Result, Ok, Err, if◌then◌else◌, refl, sym, ap, ap₂, ◌∙◌, subst, ℤ}
 use Rattle.ib_meaning.specs.declared.fault.FaultKind.{FaultKind}
 use Rattle.ib_meaning.specs.declared.place.Place.{Place}
 use Rattle.machine_desc.specs.declared.machine.OpClass.{OpClass}
@@ -8,24 +7,22 @@ use Rattle.machine_desc.specs.Machine.{IsTable}
 use Rattle.wide_core.specs.declared.code.Loc.TheVariants.{Reg}
 use Rattle.wide_core.specs.declared.code.Tagged.{Tagged}
 use Rattle.wide_core.specs.declared.code.Tagged.TheVariants.{Clear, Mark}
-use Rattle.wide_core.specs.declared.code.WideAct.{WideAct}
-use Rattle.wide_core.specs.declared.code.WideAct.TheVariants.{Do, Check, Jump, Call, Return}
+use Rattle.wide_core.specs.declared.code.WideAct.TheVariants.{Check}
 use Rattle.wide_core.specs.declared.code.WideOp.{WideOp}
 use Rattle.wide_core.specs.Classes.{is_register}
 use Rattle.wide_core.specs.Tagged.{least_mark, number_of, evaluated}
-use Rattle.wide_core.specs.Operation.{sources, target, Exit, Effect, Nothing, Write, Save, Take, Print, Go, Leave, Stop, own, does, keeps_mark, shown, effect_on}
+use Rattle.wide_core.specs.Operation.{sources, target, Write, own, does, keeps_mark, shown, effect_on}
 use Rattle.wide_core.specs.Word.{Flow, Outcome, Stopped, apply}
 use Rattle.sb_order.specs.Spread.{is_item}
-use Rattle.sb_order.specs.Flat.{around, one_effect, goes_on, flat, ends, joined, Every, Nil, Cons}
-use Rattle.sb_order.specs.Superblock.{Plain, Event, plain, written, traps, put_at, settles, needs_check, check_of, checks_of, checked, needs, Rises, RisesNot, RisesBy}
-use Rattle.sb_order.specs.Edges.{Item, Known, items, learn, at_head, is_control}
-use Rattle.sb_order.specs.Schedule.{unflagged, with_struck, Spot, every, has_room, edges_kept, is_legal, earlier, sorted, cut, scheduled, Matches, SameEvent, AtEnd, AtExit, AtReturn, AtFault, Starts}
-use Rattle.sb_order.specs.Order.{InRange, IsOperation, IsSource, IsSuperblock, EndsLast, TheLast, NotLast, FlatInvisible}
+use Rattle.sb_order.specs.Flat.{around, one_effect, goes_on, flat, Every, Nil, Cons}
+use Rattle.sb_order.specs.Superblock.{Plain, Event, plain, written, traps, put_at, settles, needs_check, check_of, checked, Rises, RisesNot, RisesBy}
+use Rattle.sb_order.specs.Edges.{Item, Known, items, learn, at_head}
+use Rattle.sb_order.specs.Schedule.{unflagged, with_struck, Spot, every, has_room, edges_kept, is_legal, sorted, SameEvent, AtExit, AtReturn, AtFault, Starts}
+use Rattle.sb_order.specs.Order.{IsOperation, IsSource, IsSuperblock}
 use Rattle.sb_order.proofs.Closed.{both}
-use Rattle.sb_order.proofs.Joined.{joined_scheduled}
 use Rattle.sb_order.proofs.Holds.{Holds}
 use Rattle.sb_order.proofs.Sorted.{sorted_items, sorted_ops, keeps_legal}
-use Rattle.sb_order.proofs.Swap.{SameWorld, Like, LikeThrough, LikeGone, LikeLeft, LikeStopped, like_refl, like_trans, goes_on_like}
+use Rattle.sb_order.proofs.Swap.{Like, LikeThrough, LikeGone, LikeLeft, LikeStopped, like_refl, like_trans, goes_on_like}
 use Rattle.sb_order.proofs.Reorder.{truthful_items, reorder}
 use Rattle.sb_order.proofs.Settle.{RegisterWrites, register_writes, by_tags}
 use Rattle.sb_order.proofs.Sentinels.{check_marked, check_passes, put_same, traps_register, settled}

@@ -21,7 +21,7 @@ pub data Like (heads : ℕ → ℕ → Bool) : Outcome → Outcome → Type 0 wh
   LikeLeft : (z : ℤ) (s t : Flow) → SameWorld s t → Like heads (Left z s) (Left z t)
   LikeStopped : (n : ℕ) (k : FaultKind) (s t : Flow) → SameWorld s t → Like heads (Stopped n k s) (Stopped n k t)
 
-world_refl : (s : Flow) → SameWorld s s
+pub world_refl : (s : Flow) → SameWorld s s
 world_refl s = record { memory = refl; left = refl; out = refl }
 
 world_sym : (s t : Flow) → SameWorld s t → SameWorld t s

@@ -3,7 +3,7 @@ use Rattle.std.proofs.Common.{◌≡◌, ℕ, zero, suc, ◌+◌, ◌<◌, ◌�
 use Rattle.std.proofs.lemmas.Bool.Decides.{nat_tests}
 use Rattle.machine_desc.specs.declared.machine.OpClass.{OpClass}
 use Rattle.wide_core.specs.Classes.{class_of}
-use Rattle.sb_order.specs.Spread.{reads, in_list}
+use Rattle.sb_order.specs.Uses.{reads, in_list}
 use Rattle.sb_order.specs.Flat.{at_exits, is_target, Every, Nil, Cons}
 use Rattle.sb_order.specs.Superblock.{written}
 use Rattle.sb_order.specs.Edges.{Item, apart, is_control, is_member, no_member, unwritten, meet, Row, rows}

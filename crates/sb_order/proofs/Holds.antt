@@ -18,7 +18,7 @@ use Rattle.wide_core.specs.Tagged.{number_of, evaluated}
 use Rattle.wide_core.specs.Places.{put}
 use Rattle.wide_core.specs.Operation.{sources, Effect, Nothing, Write, Save, Take, Print, Go, Leave, Stop, effect_by, effect_on, shown}
 use Rattle.wide_core.specs.Word.{Flow, apply}
-use Rattle.sb_order.specs.Spread.{writes_now}
+use Rattle.sb_order.specs.Uses.{writes_now}
 use Rattle.sb_order.specs.Flat.{around, one_effect, is_target}
 use Rattle.sb_order.specs.Superblock.{written}
 use Rattle.sb_order.specs.Edges.{Root, Number, Frame, Reaching, Base, Known, given_by, learn, same_root, disjoint}

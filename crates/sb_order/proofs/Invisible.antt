@@ -3,7 +3,7 @@ use Rattle.std.proofs.Common.{◌≡◌, ℕ, ◌<◌, ◌≤◌, Bool, true, fa
 use Rattle.std.proofs.lemmas.Bool.Decides.{nat_tests}
 use Rattle.machine_desc.specs.declared.machine.OpClass.{OpClass}
 use Rattle.wide_core.specs.Word.{Through}
-use Rattle.sb_order.specs.Spread.{reads, in_list}
+use Rattle.sb_order.specs.Uses.{reads, in_list}
 use Rattle.sb_order.specs.Flat.{flat, run_words, at_exits, joined, Every, Nil, Cons}
 use Rattle.sb_order.specs.Edges.{Item, Known, items, learn, base_in, at_head, apart, is_control, is_member}
 use Rattle.sb_order.specs.Schedule.{Spot, with_struck, earlier, sorted, cut, cut_behind, joined_to, words_of, scheduled}

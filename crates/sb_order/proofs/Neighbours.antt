@@ -20,7 +20,7 @@ use Rattle.wide_core.specs.Tagged.{number_of, least_mark, evaluated}
 use Rattle.wide_core.specs.Places.{put}
 use Rattle.wide_core.specs.Operation.{reg_if, sources, target, Exit, Effect, Nothing, Write, Save, Take, Print, Go, Leave, Stop, first_of, own, is_zero, writes, does_act, does, keeps_mark, shown, Around, effect_by, effect_on}
 use Rattle.wide_core.specs.Word.{Flow, apply, byte_from, behind_byte}
-use Rattle.sb_order.specs.Spread.{reads, is_item, in_list, opt_list}
+use Rattle.sb_order.specs.Uses.{reads, is_item, in_list, opt_list}
 use Rattle.sb_order.specs.Flat.{around, one_effect, is_target, at_exit, at_exits, flat}
 use Rattle.sb_order.specs.Superblock.{written}
 use Rattle.sb_order.specs.Edges.{Base, Known, Item, base_in, store_of, load_of, apart, apart_at, same_root, disjoint, is_member}

@@ -3,7 +3,7 @@ use Rattle.std.proofs.Common.{◌≡◌, ℕ, ◌≤◌, Bool, true, false, ◌|
 use mathlib.Core.Path.{fun_ext}
 use Rattle.wide_core.specs.declared.code.WideOp.{WideOp}
 use Rattle.wide_core.specs.Word.{Flow, apply}
-use Rattle.sb_order.specs.Spread.{reads, in_list}
+use Rattle.sb_order.specs.Uses.{reads, in_list}
 use Rattle.sb_order.specs.Flat.{one_effect, flat, is_target, Every, Nil, Cons}
 use Rattle.sb_order.specs.Superblock.{written}
 use Rattle.sb_order.specs.Edges.{Known, Item, items, base_in, learn}

@@ -18,7 +18,7 @@ use Rattle.wide_core.specs.Tagged.{least_mark, number_of, evaluated}
 use Rattle.wide_core.specs.Places.{put}
 use Rattle.wide_core.specs.Operation.{sources, Effect, Nothing, Write, Save, Take, Print, Go, Leave, Stop, first_of, own, is_zero, writes, does_act, does, shown, Around, effect_on}
 use Rattle.wide_core.specs.Word.{Flow, apply, byte_from, behind_byte, saved}
-use Rattle.sb_order.specs.Spread.{reads, writes_now, is_item, in_list}
+use Rattle.sb_order.specs.Uses.{reads, writes_now, is_item, in_list}
 use Rattle.sb_order.specs.Flat.{around, one_effect, goes_on, flat, is_target, ends, at_exits, Every, Nil, Cons}
 use Rattle.sb_order.specs.Superblock.{Plain, ByFault, plain_apply, plain_on, plain_by, plain, written, traps, put_at, settles, needs_check, check_of, checks_of, checked, needs, Rises, RisesNot, RisesBy}
 use Rattle.sb_order.specs.Schedule.{Matches, SameEvent, AtEnd, AtExit, AtReturn, AtFault}

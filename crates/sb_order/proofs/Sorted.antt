@@ -2,7 +2,7 @@
 use Rattle.std.proofs.Common.{◌≡◌, ℕ, ◌<◌, ◌≤◌, Bool, true, false, ◌==◌, nat_lt, List, [], ◌∷◌, ◌++◌, map, refl, sym, ap, ◌∙◌, subst, if◌then◌else◌, arith}
 use Rattle.machine_desc.specs.declared.machine.OpClass.{OpClass}
 use Rattle.wide_core.specs.declared.code.WideOp.{WideOp}
-use Rattle.sb_order.specs.Spread.{reads, in_list}
+use Rattle.sb_order.specs.Uses.{reads, in_list}
 use Rattle.sb_order.specs.Flat.{at_exits, is_target, Every, Nil, Cons}
 use Rattle.sb_order.specs.Superblock.{written}
 use Rattle.sb_order.specs.Edges.{Item, apart, is_member}

@@ -13,7 +13,7 @@ use Rattle.wide_core.specs.Classes.{is_register}
 use Rattle.wide_core.specs.Tagged.{least_mark, number_of, evaluated}
 use Rattle.wide_core.specs.Operation.{sources, target, Write, own, does, keeps_mark, shown, effect_on}
 use Rattle.wide_core.specs.Word.{Flow, Outcome, Stopped, apply}
-use Rattle.sb_order.specs.Spread.{is_item}
+use Rattle.sb_order.specs.Uses.{is_item}
 use Rattle.sb_order.specs.Flat.{around, one_effect, goes_on, flat, Every, Nil, Cons}
 use Rattle.sb_order.specs.Superblock.{Plain, Event, plain, written, traps, put_at, settles, needs_check, check_of, checked, Rises, RisesNot, RisesBy}
 use Rattle.sb_order.specs.Edges.{Item, Known, items, learn, at_head}

@@ -7,7 +7,7 @@ use Rattle.wide_core.specs.declared.code.WideOp.{WideOp}
 use Rattle.wide_core.specs.Classes.{is_register}
 use Rattle.wide_core.specs.Operation.{sources, Exit, Effect, Nothing, Write, Save, Take, Print, Go, Leave, Stop}
 use Rattle.wide_core.specs.Word.{Flow, Outcome, Through, Gone, Left, apply, acts, effects}
-use Rattle.sb_order.specs.Spread.{reads, in_list}
+use Rattle.sb_order.specs.Uses.{reads, in_list}
 use Rattle.sb_order.specs.Flat.{around, one_effect, goes_on, flat, run_words, can_go, at_exit, at_exits, Every, Nil, Cons}
 use Rattle.sb_order.specs.Superblock.{written}
 use Rattle.sb_order.specs.Edges.{Item, Known, learn, base_in, apart, is_control, is_member}

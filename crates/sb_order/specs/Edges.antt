@@ -7,7 +7,7 @@ use Rattle.wide_core.specs.declared.code.WideAct.{WideAct}
 use Rattle.wide_core.specs.declared.code.WideAct.TheVariants.{Do, Jump, Branch, BranchZero, Call, Return}
 use Rattle.wide_core.specs.declared.code.WideOp.{WideOp}
 use Rattle.wide_core.specs.Classes.{class_of, is_register}
-use Rattle.sb_order.specs.Spread.{reads, in_list}
+use Rattle.sb_order.specs.Uses.{reads, in_list}
 use Rattle.sb_order.specs.Flat.{at_exits, is_target}
 use Rattle.sb_order.specs.Superblock.{written}
 

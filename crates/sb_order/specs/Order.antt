@@ -10,7 +10,7 @@ use Rattle.wide_core.specs.declared.code.WideAct.{WideAct}
 use Rattle.wide_core.specs.declared.code.WideAct.TheVariants.{Do, Check}
 use Rattle.wide_core.specs.declared.code.WideOp.{WideOp}
 use Rattle.wide_core.specs.Word.{Flow, Through}
-use Rattle.sb_order.specs.Spread.{reads, in_list, is_item}
+use Rattle.sb_order.specs.Uses.{reads, in_list, is_item}
 use Rattle.sb_order.specs.Flat.{at_exits, is_target, ends, flat, run_words, joined, Every}
 use Rattle.sb_order.specs.Superblock.{written, Plain, plain, FitsLive, Rises}
 use Rattle.sb_order.specs.Edges.{Item, apart, is_member}

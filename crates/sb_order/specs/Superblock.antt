@@ -13,7 +13,7 @@ use Rattle.wide_core.specs.Operation.{Exit, Effect, Write, Save, Take, Print, Go
 use Rattle.wide_core.specs.Places.{put}
 use Rattle.wide_core.specs.Tagged.{number_of}
 use Rattle.wide_core.specs.Word.{byte_from, behind_byte, saved}
-use Rattle.sb_order.specs.Spread.{reads, writes_now, in_list}
+use Rattle.sb_order.specs.Uses.{reads, writes_now, in_list}
 use Rattle.sb_order.specs.Flat.{at_exits, is_target}
 
 -- ---- in source order, without marks

@@ -1,5 +1,5 @@
 -- The definitions on small superblocks.
-use Rattle.std.proofs.Common.{◌≡◌, ℕ, Bool, true, false, List, [], ◌∷◌, Some, pos, refl, if◌then◌else◌, ◌==◌}
+use Rattle.std.proofs.Common.{◌≡◌, ℕ, ◌≤◌, lit<, Bool, true, false, List, [], ◌∷◌, Some, pos, refl, if◌then◌else◌, ◌==◌}
 use Rattle.ib_meaning.specs.declared.place.Place.{Place}
 use Rattle.ib_base.specs.declared.integers.Width.TheVariants.{W4}
 use Rattle.ib_act.specs.declared.act.Size.TheVariants.{Four}
@@ -8,9 +8,15 @@ use Rattle.machine_desc.specs.Machine.{four_units, four_latency}
 use Rattle.wide_core.specs.declared.code.WideAct.{WideAct}
 use Rattle.wide_core.specs.declared.code.WideAct.TheVariants.{Do, Check, Return}
 use Rattle.wide_core.specs.declared.code.WideOp.{WideOp}
-use Rattle.sb_order.specs.Superblock.{checked}
+use Rattle.std.specs.Int.Signed.{le_z_yes}
+use Rattle.machine_desc.specs.Laws.{four_is_table}
+use Rattle.wide_core.specs.Word.{Flow, Through}
+use Rattle.sb_order.specs.Flat.{run_words, Every, Nil, Cons}
+use Rattle.sb_order.specs.Superblock.{Plain, plain, checked, RisesNot, RisesBy}
+use Rattle.sb_order.specs.Order.{IsSource, IsSuperblock, TheLast, NotLast, Invisible}
+use Rattle.sb_order.proofs.Invisible.{invisible}
 use Rattle.sb_order.specs.Edges.{Item, items, at_head, delays}
-use Rattle.sb_order.specs.Schedule.{Spot, is_legal, is_tight, with_struck, scheduled}
+use Rattle.sb_order.specs.Schedule.{Starts, SameEvent, Spot, is_legal, is_tight, with_struck, scheduled}
 
 abbrev here : Place
 here = record { line = 1; col = 1 }
@@ -110,3 +116,39 @@ f4 = refl
 
 f_words : scheduled row_d nothing_struck (spots (spot 4 0) (spot 5 0) (spot 5 1)) ≡ (o1 ∷ o3 ∷ []) ∷ (o5 ∷ []) ∷ (o6 ∷ o7 ∷ []) ∷ []
 f_words = refl
+
+-- ---- the theorem on a row
+
+-- all registers are live at each head
+abbrev all : ℕ → ℕ → Bool
+all w r = true
+
+source_load : IsSource o1
+source_load = record { item = refl; in_range = (le_z_yes tt, le_z_yes tt) }
+
+source_div : IsSource o3
+source_div = record { item = refl; in_range = tt }
+
+source_add : IsSource o5
+source_add = record { item = refl; in_range = tt }
+
+source_print : IsSource o6
+source_print = record { item = refl; in_range = tt }
+
+source_return : IsSource o7
+source_return = record { item = refl; in_range = tt }
+
+d_superblock : IsSuperblock all 0 row_d
+d_superblock = record {
+  rises =
+      RisesBy 0 o1 (o3 ∷ o5 ∷ o6 ∷ o7 ∷ []) (lit< tt) refl
+      (RisesBy 2 o3 (o5 ∷ o6 ∷ o7 ∷ []) (lit< tt) refl (RisesBy 4 o5 (o6 ∷ o7 ∷ []) (lit< tt) refl (RisesBy 5 o6 (o7 ∷ []) (lit< tt) refl (RisesBy 6 o7 [] (lit< tt) refl (RisesNot 7)))));
+  fits = record { fits = λ r e. refl };
+  last = NotLast o1 (o3 ∷ o5 ∷ o6 ∷ o7 ∷ []) refl (NotLast o3 (o5 ∷ o6 ∷ o7 ∷ []) refl (NotLast o5 (o6 ∷ o7 ∷ []) refl (NotLast o6 (o7 ∷ []) refl (TheLast o7 refl))));
+  sources = Cons o1 (o3 ∷ o5 ∷ o6 ∷ o7 ∷ []) source_load (Cons o3 (o5 ∷ o6 ∷ o7 ∷ []) source_div (Cons o5 (o6 ∷ o7 ∷ []) source_add (Cons o6 (o7 ∷ []) source_print (Cons o7 [] source_return Nil))));
+}
+
+d_invisible : (base : ℕ) → base ≤ 1048576 → (room : ℕ → Bool) (s : Flow) (u : Plain) → Starts all 0 s u → SameEvent all (run_words base room true ((o1 ∷ o3 ∷ []) ∷ (o5 ∷ []) ∷ (o6 ∷ o7 ∷ []) ∷ []) (λ t. Through t) s) (plain base room row_d u)
+unfolding Invisible
+d_invisible base low room s u st =
+    invisible all true 4 32 four_units four_latency base room four_is_table low 0 row_d nothing_struck (spots (spot 4 0) (spot 5 0) (spot 5 1)) d_superblock refl s u st

@@ -1,5 +1,5 @@
 -- The source order with its checks comes to the event of the source order without marks.
-use Rattle.std.proofs.Common.{◌≡◌, ℕ, suc, ◌<◌, Bool, true, false, ◌&&◌, ◌||◌, not, ◌==◌, List, [], ◌∷◌, ◌++◌, map, true≢false, Option, Some, None, Result, Ok, Err, if◌then◌else◌, refl, sym, ap, ap₂, ◌∙◌, subst, arith, ℤ, pos}
+use Rattle.std.proofs.Common.{◌≡◌, ℕ, suc, ◌≤◌, ◌<◌, Bool, true, false, ◌&&◌, ◌||◌, not, ◌==◌, List, [], ◌∷◌, ◌++◌, map, true≢false, Option, Some, None, Result, Ok, Err, if◌then◌else◌, refl, sym, ap, ap₂, ◌∙◌, subst, arith, ℤ, pos}
 use Rattle.ib_meaning.specs.declared.fault.FaultKind.{FaultKind}
 use Rattle.ib_meaning.specs.declared.place.Place.{Place}
 use Rattle.ib_act.specs.declared.act.Act.{Act}
@@ -20,7 +20,7 @@ use Rattle.wide_core.specs.Operation.{sources, Effect, Nothing, Write, Save, Tak
 use Rattle.wide_core.specs.Word.{Flow, apply, byte_from, behind_byte, saved}
 use Rattle.sb_order.specs.Uses.{reads, writes_now, is_item, in_list}
 use Rattle.sb_order.specs.Flat.{around, one_effect, goes_on, flat, is_target, ends, at_exits, Every, Nil, Cons}
-use Rattle.sb_order.specs.Superblock.{Plain, ByFault, plain_apply, plain_on, plain_by, plain, written, traps, put_at, settles, needs_check, check_of, checks_of, checked, needs, Rises, RisesNot, RisesBy}
+use Rattle.sb_order.specs.Superblock.{last_number, Plain, ByFault, plain_apply, plain_on, plain_by, plain, written, traps, put_at, settles, needs_check, check_of, checks_of, checked, needs, Rises, RisesNot, RisesBy}
 use Rattle.sb_order.specs.Schedule.{Matches, SameEvent, AtEnd, AtExit, AtReturn, AtFault}
 use Rattle.sb_order.specs.Order.{IsSource}
 use Rattle.sb_order.proofs.Closed.{eq_refl, both}
@@ -57,7 +57,7 @@ module _ (heads : ℕ → ℕ → Bool) where
           (λ a. needs_behind heads op ops q w (more (needs_past op (needs_check op (checked ops)) (checked ops) q w a)))
           (rw w at e)
 
-behind_more : {n m : ℕ} {ops : List WideOp} → n < m → Behind m ops → Behind n ops
+behind_more : {n m : ℕ} {ops : List WideOp} → n ≤ m → Behind m ops → Behind n ops
 behind_more e BehindNone = BehindNone
 behind_more {n} {m} e (BehindOne op ops i f g b) = BehindOne op ops i f (λ h. let l = g h in omega arith) (behind_more e b)
 
@@ -69,10 +69,17 @@ check_behind n op true l h = by_target (written op.act)
     by_target None = h
     by_target (Some r) = BehindOne (record { number = suc op.number; home = op.home; flagged = false; act = Check r }) l refl refl (λ e. absurd (true≢false (sym e))) h
 
+pub last_least : (op : WideOp) → op.number ≤ last_number op
+last_least op = by_one (traps op.act)
+  where
+    by_one : (b : Bool) → op.number ≤ (if b then suc op.number else op.number)
+    by_one true = omega arith
+    by_one false = omega arith
+
 pub rises_behind : {n : ℕ} {ops : List WideOp} → Every IsSource ops → Rises n ops → Behind n (checked ops)
 rises_behind Nil (RisesNot n) = BehindNone
 rises_behind (Cons _ _ w ws) (RisesBy n op ops b f r) =
-    BehindOne op _ w.item f (λ e. b) (check_behind n op (needs_check op (checked ops)) (checked ops) (behind_more (omega arith) (rises_behind ws r)))
+    BehindOne op _ w.item f (λ e. b) (check_behind n op (needs_check op (checked ops)) (checked ops) (behind_more (let l = last_least op in omega arith) (rises_behind ws r)))
 
 -- ---- clear registers
 
@@ -277,4 +284,4 @@ module _ (heads : ℕ → ℕ → Bool) (base : ℕ) (room : ℕ → Bool) where
   settled n s u (Cons op ops w ws) (RisesBy n' op' ops' b fl r) m c =
       let is = effect_clear op s u w.item m.memory (λ q a. c q (needs_read heads op ops q a)) in
       subst (λ x. SameEvent heads (goes_on base room x (flat base room (checks_of op (checked ops) ++ checked ops)) s) (plain base room (op ∷ ops) u)) (sym is)
-      (settled_op op ops s u w.item fl (behind_more (omega arith) (rises_behind ws r)) m c (λ s' u' m' c'. settled (suc op.number) s' u' ws r m' c') (own op.act base u.memory room (map u.places (sources op.act))) refl)
+      (settled_op op ops s u w.item fl (behind_more (last_least op) (rises_behind ws r)) m c (λ s' u' m' c'. settled (last_number op) s' u' ws r m' c') (own op.act base u.memory room (map u.places (sources op.act))) refl)

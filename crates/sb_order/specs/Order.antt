@@ -52,10 +52,9 @@ pub record IsOperation (op : WideOp) : Type 0 where
   pub flag : op.flagged ≡ true → is_register op.act ≡ true
   pub in_range : InRange op.act
 
--- what `form` gives: no spill, reload or check
+-- neither a spill nor a reload, and a call's result goes to a register
 pub record IsSource (op : WideOp) : Type 0 where
   pub item : is_item op.act ≡ true
-  pub no_check : (r : ℕ) → op.act ≡ Check r → ⊥
   pub in_range : InRange op.act
 
 pub record IsSuperblock (heads : ℕ → ℕ → Bool) (head : ℕ) (ops : List WideOp) : Type 0 where

@@ -117,7 +117,11 @@ needs heads (op ∷ ops) r = (in_list r (reads op.act) || at_exits heads op.act 
 pub record FitsLive (heads : ℕ → ℕ → Bool) (head : ℕ) (ops : List WideOp) : Type 0 where
   pub fits : (r : ℕ) → needs heads ops r ≡ true → heads head r ≡ true
 
--- numbers rise, with room for a check; exactly the register operations are flagged
+-- the number of its check, where it may need one
+abbrev pub last_number : WideOp → ℕ
+last_number op = if traps op.act then suc op.number else op.number
+
+-- numbers rise, with room for the checks; exactly the register operations are flagged
 pub data Rises : ℕ → List WideOp → Type 0 where
   RisesNot : (n : ℕ) → Rises n []
-  RisesBy : (n : ℕ) (op : WideOp) (ops : List WideOp) → n < op.number → op.flagged ≡ is_register op.act → Rises (suc op.number) ops → Rises n (op ∷ ops)
+  RisesBy : (n : ℕ) (op : WideOp) (ops : List WideOp) → n < op.number → op.flagged ≡ is_register op.act → Rises (last_number op) ops → Rises n (op ∷ ops)

@@ -37,7 +37,7 @@ module _ (spot : ℕ → Spot) where
       by_one false = refl
   cut_item_ops a (b ∷ rest) = refl
 
-  cut_ops : (l : List Item) → ops_of (cut_items l) ≡ cut spot (ops_of l)
+  pub cut_ops : (l : List Item) → ops_of (cut_items l) ≡ cut spot (ops_of l)
   cut_ops [] = refl
   cut_ops (a ∷ l) = cut_item_ops a (cut_items l) ∙ ap (cut_behind spot a.op) (cut_ops l)
 
@@ -59,7 +59,7 @@ module _ (spot : ℕ → Spot) where
       by_one true = refl
       by_one false = refl
 
-  words_items_ops : (l : List Item) → words_ops (words_items l) ≡ words_of spot (ops_of l)
+  pub words_items_ops : (l : List Item) → words_ops (words_items l) ≡ words_of spot (ops_of l)
   words_items_ops [] = refl
   words_items_ops (a ∷ l) = joined_item_ops a (words_items l) ∙ ap (joined_to spot a.op) (words_items_ops l)
 
@@ -72,7 +72,7 @@ module _ (spot : ℕ → Spot) where
       by_one true = refl
       by_one false = refl
 
-  all_words : (l : List Item) → all_of (words_items l) ≡ l
+  pub all_words : (l : List Item) → all_of (words_items l) ≡ l
   all_words [] = refl
   all_words (a ∷ l) = all_item a (words_items l) ∙ ap (λ x. a ∷ x) (all_words l)
 
@@ -96,7 +96,7 @@ truth_cut_item spot k a [] w e t = by_one (is_control a.op.act)
     by_one false = Silent k
 truth_cut_item spot k a (b ∷ l) w e t = Speak k a (b ∷ l) w e t
 
-truth_cut : (spot : ℕ → Spot) (l : List Item) (k : Known) → Truthful k l → Truthful k (cut_items spot l)
+pub truth_cut : (spot : ℕ → Spot) (l : List Item) (k : Known) → Truthful k l → Truthful k (cut_items spot l)
 truth_cut spot [] k t = Silent k
 truth_cut spot (a ∷ l) k (Speak _ _ _ w e t) = truth_cut_item spot k a (cut_items spot l) w e (truth_cut spot l (learn a.op k) t)
 

@@ -11,7 +11,7 @@ use Rattle.wide_core.specs.declared.code.WideOp.{WideOp}
 use Rattle.std.specs.Int.Signed.{le_z_yes}
 use Rattle.machine_desc.specs.Laws.{four_is_table}
 use Rattle.wide_core.specs.Word.{Flow, Through}
-use Rattle.sb_order.specs.Flat.{run_words, Every, Nil, Cons}
+use Rattle.sb_order.specs.Flat.{run_words, Nil, Cons}
 use Rattle.sb_order.specs.Superblock.{Plain, plain, checked, RisesNot, RisesBy}
 use Rattle.sb_order.specs.Order.{IsSource, IsSuperblock, TheLast, NotLast, Invisible}
 use Rattle.sb_order.proofs.Invisible.{invisible}

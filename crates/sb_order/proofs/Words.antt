@@ -67,16 +67,16 @@ truth_rest (Speak k i is w e t) = t
 
 module _ (heads : ℕ → ℕ → Bool) (base : ℕ) (low : base ≤ 1048576) (room : ℕ → Bool) (one : Bool) where
   -- what is known of all items of a word is known before it
-  record Claims (k : Known) (i : Item) : Type 0 where
-    operation : IsOperation i.op
-    base_is : i.base ≡ base_in k (reads i.op.act)
+  pub record Claims (k : Known) (i : Item) : Type 0 where
+    pub operation : IsOperation i.op
+    pub base_is : i.base ≡ base_in k (reads i.op.act)
 
-  claims_past : {k : Known} {a : Item} {bs : List Item} → Every (Beside heads one a) bs → Every (Claims (learn a.op k)) bs → Every (Claims k) bs
+  pub claims_past : {k : Known} {a : Item} {bs : List Item} → Every (Beside heads one a) bs → Every (Claims (learn a.op k)) bs → Every (Claims k) bs
   claims_past Nil Nil = Nil
   claims_past {k} {a} (Cons b bs h hs) (Cons _ _ c cs) =
       Cons b bs (record { operation = c.operation; base_is = c.base_is ∙ base_other a.op k (reads b.op.act) h.misses }) (claims_past hs cs)
 
-  claims_word : {w : List Item} (rest : List Item) → IsWord heads one w → (k : Known) → Truthful k (w ++ rest) → Every (Claims k) w
+  pub claims_word : {w : List Item} (rest : List Item) → IsWord heads one w → (k : Known) → Truthful k (w ++ rest) → Every (Claims k) w
   claims_word rest EmptyWord k t = Nil
   claims_word rest (LongerWord a bs h hs) k t =
       let c = truth_is t in Cons a bs (record { operation = c.0; base_is = c.1 }) (claims_past h (claims_word rest hs (learn a.op k) (truth_rest t)))
@@ -127,7 +127,7 @@ module _ (heads : ℕ → ℕ → Bool) (base : ℕ) (low : base ≤ 1048576) (r
   version true e h g = h e
   version false e h g = g
 
-  abbrev learn_all : List Item → Known → Known
+  abbrev pub learn_all : List Item → Known → Known
   learn_all [] k = k
   learn_all (a ∷ w) k = learn_all w (learn a.op k)
 
@@ -153,7 +153,7 @@ module _ (heads : ℕ → ℕ → Bool) (base : ℕ) (low : base ≤ 1048576) (r
       subst (λ x. Like heads (acts one (x ∷ Effects s0 bs) next s) (flat base room (ops_of (a ∷ (bs ++ rest))) s)) (sym (first_agrees ag))
       (first_acts a bs rest s0 s next g e u (word_runs rest (learn a.op k) s0 (apply e s) next gs (truth_rest t) (learned heads base room a.op s k c.0 h) after more))
 
-  truth_all : (w rest : List Item) (k : Known) → Truthful k (w ++ rest) → Truthful (learn_all w k) rest
+  pub truth_all : (w rest : List Item) (k : Known) → Truthful k (w ++ rest) → Truthful (learn_all w k) rest
   truth_all [] rest k t = t
   truth_all (a ∷ w) rest k t = truth_all w rest (learn a.op k) (truth_rest t)
 

@@ -7,7 +7,7 @@ use Rattle.ib_act.specs.declared.act.Act.TheVariants.{Const, FrameAddress, Load,
 use Rattle.ib_act.specs.Acts.{IsOffset}
 use Rattle.wide_core.specs.Classes.{is_register}
 use Rattle.wide_core.specs.declared.code.WideAct.{WideAct}
-use Rattle.wide_core.specs.declared.code.WideAct.TheVariants.{Do, Check}
+use Rattle.wide_core.specs.declared.code.WideAct.TheVariants.{Do}
 use Rattle.wide_core.specs.declared.code.WideOp.{WideOp}
 use Rattle.wide_core.specs.Word.{Flow, Through}
 use Rattle.sb_order.specs.Uses.{reads, in_list, is_item}

@@ -116,6 +116,11 @@ put_other d r v f e = rw e refl
 pub other_than : (o : Option ℕ) (d r : ℕ) → o ≡ Some d → is_target o r ≡ false → (r == d) ≡ false
 other_than o d r e f = rw e at f
 
+-- a value is the same whether its operation is flagged or not
+pub value_either : (b : Bool) (n : ℕ) (z v : ℤ) → evaluated b n (Clear z) (Ok v) ≡ Value v
+value_either true n z v = refl
+value_either false n z v = refl
+
 module _ (heads : ℕ → ℕ → Bool) (base : ℕ) (room : ℕ → Bool) where
   pub places_other : (act : WideAct) (s : Flow) (e : Effect) → Suits heads act e → (r : ℕ) → is_target (written act) r ≡ false → (apply e s).places (Reg r) ≡ s.places (Reg r)
   places_other act s Nothing u r h = refl
@@ -136,10 +141,6 @@ module _ (heads : ℕ → ℕ → Bool) (base : ℕ) (room : ℕ → Bool) where
   stays_whole s (Go x) h = h
   stays_whole s (Leave z) h = h
   stays_whole s (Stop n k) h = h
-
-  value_either : (b : Bool) (n : ℕ) (z v : ℤ) → evaluated b n (Clear z) (Ok v) ≡ Value v
-  value_either true n z v = refl
-  value_either false n z v = refl
 
   put_here : (d r : ℕ) (v : Tagged) (f : Loc → Tagged) → (r == d) ≡ true → put (Reg d) v f (Reg r) ≡ v
   put_here d r v f e = rw e refl

@@ -1,5 +1,5 @@
 -- The words of a legal schedule come to the event of the source order: speculation is invisible.
-use Rattle.std.proofs.Common.{◌≡◌, ℕ, ◌<◌, ◌≤◌, Bool, true, false, ◌&&◌, ◌||◌, ◌==◌, nat_lt, List, [], ◌∷◌, ◌++◌, true≢false, ◌⊎◌, inl, inr, if◌then◌else◌, refl, sym, ap, ◌∙◌, subst, arith}
+use Rattle.std.proofs.Common.{◌≡◌, ℕ, ◌<◌, ◌≤◌, Bool, true, false, ◌&&◌, ◌==◌, nat_lt, List, [], ◌∷◌, ◌++◌, ◌⊎◌, inl, inr, if◌then◌else◌, refl, sym, ap, ◌∙◌, subst, arith}
 use Rattle.std.proofs.lemmas.Bool.Decides.{nat_tests}
 use Rattle.machine_desc.specs.declared.machine.OpClass.{OpClass}
 use Rattle.wide_core.specs.Word.{Through}
@@ -11,6 +11,7 @@ use Rattle.sb_order.specs.Order.{IsOperation, FlatInvisible, Invisible}
 use Rattle.sb_order.proofs.Closed.{eq_same, eq_refl, true_lt, AllClosed, AllNone, AllMore, all_closed}
 use Rattle.sb_order.proofs.Sorted.{true_by, false_by, Clo, Order, put_item, sorted_items, sorted_ops, earlier_is, not_before, every_put, every_sorted, keeps_legal}
 use Rattle.sb_order.proofs.Holds.{Holds}
+use Rattle.sb_order.proofs.Neighbours.{or_false}
 use Rattle.sb_order.proofs.Swap.{Like}
 use Rattle.sb_order.proofs.Reorder.{Truthful, Silent, Speak, truthful_items, reorder}
 use Rattle.sb_order.proofs.Speculation.{operations, ops_items, edges, like_event}
@@ -123,10 +124,6 @@ module _ (heads : ℕ → ℕ → Bool) (one : Bool) (width : ℕ) (units latenc
 
   not_lt_le : (a b : ℕ) → nat_lt a b ≡ false → b ≤ a
   not_lt_le a b h = grind (arith, nat_tests)
-
-  or_false : (a b : Bool) → (a || b) ≡ false → (a ≡ false) × (b ≡ false)
-  or_false true b e = absurd (true≢false e)
-  or_false false b e = (refl, e)
 
   lt_by : (a b : ℕ) → b ≤ a → (a ≡ b → ⊥) → b < a
   lt_by a b h n = by_one (nat_lt b a) refl

@@ -3,10 +3,10 @@ use Prim.Native.Nat.{zero}
 use Rattle.std.proofs.Common.{◌≡◌, ℕ, suc, ◌+◌, ◌-◌, ◌/◌, ◌%◌, ◌≤◌, Bool, true, false, ◌&&◌, ◌==◌, nat_le, List, [], ◌∷◌, ◌++◌, length, take, drop, true≢false, Some, None, refl, sym, ap, ◌∙◌, subst, if◌then◌else◌, arith, ℤ, pos, negsuc, ◌+ℤ◌, ◌-ℤ◌, ◌≤ℤ◌, w64, length-append, length-drop}
 use Rattle.std.specs.Option.{unwrap_or}
 use Rattle.std.specs.Int.{int_wrap}
-use Rattle.std.proofs.lemmas.Bool.Decides.{nat_tests}
 use Rattle.std.proofs.lemmas.Int.{ints, by_lt_z, int_wrap_fits, int_wrap-sub_right}
 use Rattle.std.proofs.lemmas.List.{take-append-le, drop-take, length-take-le}
 use Rattle.std.proofs.Math.Seq.{drop-append-add}
+use Rattle.sb_order.proofs.Closed.{both, true_le}
 use Rattle.ib_mem.specs.Memory.{can_access, number_of, bytes_of, filled, loaded, stored}
 
 -- ---- lists
@@ -53,13 +53,6 @@ read_behind m bytes at b k fits h =
     ap (take k) (ap (λ n. drop n (filled m at bytes)) (sym e) ∙ drop-append-add front rest j ∙ drop-twice m (at + length bytes) j ∙ ap (λ n. drop n m) f)
 
 -- ---- accesses
-
-both : (a b : Bool) → (a && b) ≡ true → (a ≡ true) × (b ≡ true)
-both true b e = (refl, e)
-both false b e = cc
-
-true_le : (a b : ℕ) → nat_le a b ≡ true → a ≤ b
-true_le a b h = grind (arith, nat_tests)
 
 pub ends_within : (at width : ℕ) → can_access (pos at) width ≡ true → at + width ≤ 1048576
 ends_within at width e =

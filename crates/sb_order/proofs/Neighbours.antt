@@ -54,7 +54,7 @@ sources_read (BranchZero a w) i = refl
 sources_read (Call result func next args) i = refl
 sources_read (Return a) i = source_list a
 
-or_false : (a b : Bool) → (a || b) ≡ false → (a ≡ false) × (b ≡ false)
+pub or_false : (a b : Bool) → (a || b) ≡ false → (a ≡ false) × (b ≡ false)
 or_false true b e = absurd (true≢false e)
 or_false false b e = (refl, e)
 

@@ -12,7 +12,6 @@ use Rattle.wide_core.specs.declared.code.Tagged.TheVariants.{Clear, Mark}
 use Rattle.wide_core.specs.declared.code.WideAct.{WideAct}
 use Rattle.wide_core.specs.declared.code.WideAct.TheVariants.{Do, Spill, Reload, Check, Jump, Branch, BranchZero, Call, Return}
 use Rattle.wide_core.specs.declared.code.WideOp.{WideOp}
-use Rattle.wide_core.specs.declared.tags.Done.TheVariants.{Value}
 use Rattle.wide_core.specs.Classes.{is_register}
 use Rattle.wide_core.specs.Tagged.{least_mark, number_of, evaluated}
 use Rattle.wide_core.specs.Places.{put}
@@ -25,7 +24,7 @@ use Rattle.sb_order.specs.Schedule.{Matches, SameEvent, AtEnd, AtExit, AtReturn,
 use Rattle.sb_order.specs.Order.{IsSource}
 use Rattle.sb_order.proofs.Closed.{eq_refl, both}
 use Rattle.sb_order.proofs.Suits.{Suits, AsNothing, AsWrite, AsSave, AsTake, AsPrint, AsGo, suits_does}
-use Rattle.sb_order.proofs.Holds.{writes_written}
+use Rattle.sb_order.proofs.Holds.{value_either, writes_written}
 use Rattle.sb_order.proofs.Neighbours.{sources_read}
 use Rattle.sb_order.proofs.Settle.{Later, IsClear, IsIt, or_right, or_left, needs_read, needs_exit, needs_behind, Behind, BehindNone, BehindOne, RegisterWrites, register_writes, by_tags, in_front, later_put, settle}
 
@@ -150,10 +149,6 @@ clean_does (Return a) ns v = tt
 written_none : (act : WideAct) → writes_now act ≡ None → ends act ≡ false → written act ≡ None
 written_none (Call result func next args) w e = cc
 written_none act w e = w
-
-value_either : (b : Bool) (n : ℕ) (z v : ℤ) → evaluated b n (Clear z) (Ok v) ≡ Value v
-value_either true n z v = refl
-value_either false n z v = refl
 
 module _ (heads : ℕ → ℕ → Bool) (base : ℕ) (room : ℕ → Bool) where
   abbrev Clears : List WideOp → Flow → Plain → Type 0

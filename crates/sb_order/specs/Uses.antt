@@ -1,0 +1,38 @@
+-- Which registers an operation reads and writes.
+use Rattle.std.specs.Prelude.{ℕ, Bool, true, false, ◌||◌, ◌==◌, List, [], ◌∷◌, ◌++◌, Option, Some, None}
+use Rattle.ib_act.specs.Acts.{first_source, second_source, target as act_target}
+use Rattle.wide_core.specs.declared.code.Loc.TheVariants.{Slot}
+use Rattle.wide_core.specs.declared.code.WideAct.{WideAct}
+use Rattle.wide_core.specs.declared.code.WideAct.TheVariants.{Do, Spill, Reload, Check, Jump, Branch, BranchZero, Call, Return}
+
+abbrev pub opt_list : Option ℕ → List ℕ
+opt_list None = []
+opt_list (Some r) = r ∷ []
+
+abbrev pub reads : WideAct → List ℕ
+reads (Do act) = opt_list (first_source act) ++ opt_list (second_source act)
+reads (Spill n a) = a ∷ []
+reads (Reload d n) = []
+reads (Check a) = a ∷ []
+reads (Jump w) = []
+reads (Branch a w) = a ∷ []
+reads (BranchZero a w) = a ∷ []
+reads (Call result func next args) = args
+reads (Return a) = opt_list a
+
+-- the register that it writes at once; a call's result comes later
+abbrev pub writes_now : WideAct → Option ℕ
+writes_now (Do act) = act_target act
+writes_now (Reload d n) = Some d
+writes_now act = None
+
+-- neither a spill nor a reload; a call's result goes to a register
+abbrev pub is_item : WideAct → Bool
+is_item (Spill n a) = false
+is_item (Reload d n) = false
+is_item (Call (Some (Slot n)) func next args) = false
+is_item act = true
+
+abbrev pub in_list : ℕ → List ℕ → Bool
+in_list r [] = false
+in_list r (x ∷ xs) = (r == x) || in_list r xs

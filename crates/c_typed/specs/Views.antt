@@ -1,4 +1,5 @@
 -- The typed programs of the code as plain data.
+use Rattle.std.proofs.Common.{Box, Global}
 use Rattle.std.specs.Prelude.{List, map}
 use Rattle.c_typed.specs.declared.expr.Expr.{Expr, Row_of-Expr, end_of-Expr, more_of-Expr}
 use Rattle.c_typed.specs.declared.expr.Expr as e
@@ -41,6 +42,9 @@ abbrev mutual
   row_exps end_of-Expr = no_exp
   row_exps (more_of-Expr x rest) = an_exp (expr_of x) (row_exps rest)
 
+abbrev pub boxed_of : Box Expr Global → Exp
+boxed_of x = expr_of x.value
+
 abbrev pub list_exps : List Expr → Exps
 list_exps xs = exps (map expr_of xs)
 
@@ -66,6 +70,9 @@ abbrev mutual
   pub row_stms : {m : _} → Row_of-Stmt m → Stms
   row_stms end_of-Stmt = no_stm
   row_stms (more_of-Stmt x rest) = a_stm (stmt_of x) (row_stms rest)
+
+abbrev pub boxed_stmt_of : Box Stmt Global → Stm
+boxed_stmt_of x = stmt_of x.value
 
 abbrev pub function_of : code_function.Function → Function
 function_of f = record { name = f.name; result = f.result; params = f.params.items; slots = f.slots; frame = f.frame; body = stms (map stmt_of f.body.items) }

@@ -1,5 +1,5 @@
 -- Lists of expressions are judged from the first on.
-use Rattle.std.proofs.Common.{◌≡◌, refl, ap, sym, ◌∙◌, subst, List, [], ◌∷◌, ◌++◌, ℕ, zero, suc, ◌+◌, ◌<◌, length, get_or, map, take, drop, Option, Vec, Global, arith, length-take}
+use Rattle.std.proofs.Common.{◌≡◌, refl, ap, sym, ◌∙◌, subst, List, [], ◌∷◌, ◌++◌, ℕ, zero, suc, ◌+◌, ◌<◌, length, get_or, map, take, drop, Option, Vec, Box, Global, arith, length-take}
 use Rattle.std.proofs.lemmas.List.{append-nil, append_assoc, take_more, map-append, length-map}
 use Rattle.c_ast.specs.declared.tree.Expr as source
 use Rattle.c_ast.specs.Trees as c
@@ -10,12 +10,11 @@ use Rattle.c_types_operators.specs.Rules.{Judged, Fine, Broken, both}
 use Rattle.c_types_operators.specs.Scopes.{Scope}
 use Rattle.c_layout.specs.Layout.{Texts}
 use Rattle.c_typed.specs.declared.expr.Expr.{Expr}
-use Rattle.c_typed.specs.Views.{expr_of}
-use Rattle.c_types_operators.specs.declared.designated.Designated as code_designated
-use Rattle.c_types_operators.specs.Operators.{passed, given_to, rest_of, listed, appended, effect_of}
-use Rattle.c_types_expressions.specs.Expressions.{literals, literals_of, designated, arguments, effects, value}
+use Rattle.c_typed.specs.Views.{boxed_of}
+use Rattle.c_types_operators.specs.Operators.{passed, given_to, rest_of, listed, appended}
+use Rattle.c_types_expressions.specs.Expressions.{literals, literals_of, designated, arguments, effect_of, effects, value}
 use Rattle.c_types_operators.specs.Judging.{Noted, Judges, Carries, CarriesBoth}
-use Rattle.c_types_operators.specs.Views.{designated_of, exprs_of}
+use Rattle.c_types_operators.specs.Views.{exprs_of}
 
 pub literals-snoc : (xs : List c.Exp) (y : c.Exp) → literals_of (c.exps (xs ++ (y ∷ []))) ≡ literals_of (c.exps xs) ++ literals y
 literals-snoc [] y = append-nil (literals y)
@@ -68,24 +67,24 @@ arguments-snoc Γ n wanted (x ∷ xs) y =
     ∙ ap (λ texts. both (both first others listed) (passed_in Γ y (drop (suc (length xs)) wanted) texts) appended) (append_assoc n (literals x) (literals_of (c.exps xs)))))
 
 pub effects-snoc : (Γ : Scope) (n : Texts) (xs : List c.Exp) (y : c.Exp) →
-    effects Γ n (c.exps (xs ++ (y ∷ []))) ≡ both (effects Γ n (c.exps xs)) (effect_of y (designated Γ (n ++ literals_of (c.exps xs)) y)) appended
+    effects Γ n (c.exps (xs ++ (y ∷ []))) ≡ both (effects Γ n (c.exps xs)) (effect_of Γ (n ++ literals_of (c.exps xs)) y) appended
 effects-snoc Γ n [] y =
-    alone (effect_of y (designated Γ n y)) ∙ ap (λ texts. both (Fine t.no_exp) (effect_of y (designated Γ texts y)) appended) (sym (append-nil n))
+    alone (effect_of Γ n y) ∙ ap (λ texts. both (Fine t.no_exp) (effect_of Γ texts y) appended) (sym (append-nil n))
 effects-snoc Γ n (x ∷ xs) y =
-    ap (λ l. both (effect_of x (designated Γ n x)) l listed) (effects-snoc Γ (n ++ literals x) xs y)
-    ∙ (both-joined (effect_of x (designated Γ n x)) (effects Γ (n ++ literals x) (c.exps xs)) (effect_of y (designated Γ ((n ++ literals x) ++ literals_of (c.exps xs)) y))
-    ∙ ap (λ texts. both (both (effect_of x (designated Γ n x)) (effects Γ (n ++ literals x) (c.exps xs)) listed) (effect_of y (designated Γ texts y)) appended) (append_assoc n (literals x) (literals_of (c.exps xs))))
+    ap (λ l. both (effect_of Γ n x) l listed) (effects-snoc Γ (n ++ literals x) xs y)
+    ∙ (both-joined (effect_of Γ n x) (effects Γ (n ++ literals x) (c.exps xs)) (effect_of Γ ((n ++ literals x) ++ literals_of (c.exps xs)) y)
+    ∙ ap (λ texts. both (both (effect_of Γ n x) (effects Γ (n ++ literals x) (c.exps xs)) listed) (effect_of Γ texts y) appended) (append_assoc n (literals x) (literals_of (c.exps xs))))
 
 -- what is found so far for a list
 abbrev pub Found : (c.Exps → Judged t.Exps) → Noted → List c.Exp → Option (Vec Expr Global) → Noted → Type 0
 Found judged before xs row now = Judges exprs_of before (literals_of (c.exps xs)) (judged (c.exps xs)) row now
 
-abbrev pub Another : Option (Vec Expr Global) → Option Expr → Option (Vec Expr Global) → Type 0
-Another row x longer = (now : Noted) → CarriesBoth exprs_of expr_of exprs_of row x now appended longer now
+abbrev pub Another : Option (Vec Expr Global) → Option (Box Expr Global) → Option (Vec Expr Global) → Type 0
+Another row x longer = (now : Noted) → CarriesBoth exprs_of boxed_of exprs_of row x now appended longer now
 
-pub one_argument : (Γ : Scope) (wanted : List ValueType) {before s1 s2 now : Noted} (xs : List c.Exp) (y : c.Exp) {row longer : Option (Vec Expr Global)} {x passed_x : Option Expr} →
-    Found (arguments Γ before.texts wanted) before xs row s1 → Judges expr_of s1 (literals y) (value Γ s1.texts y) x s2 →
-    Carries expr_of expr_of x s2 (given_to (drop (length xs) wanted) y) passed_x now → Another row passed_x longer →
+pub one_argument : (Γ : Scope) (wanted : List ValueType) {before s1 s2 now : Noted} (xs : List c.Exp) (y : c.Exp) {row longer : Option (Vec Expr Global)} {x passed_x : Option (Box Expr Global)} →
+    Found (arguments Γ before.texts wanted) before xs row s1 → Judges boxed_of s1 (literals y) (value Γ s1.texts y) x s2 →
+    Carries boxed_of boxed_of x s2 (given_to (drop (length xs) wanted) y) passed_x now → Another row passed_x longer →
     Found (arguments Γ before.texts wanted) before (xs ++ (y ∷ [])) longer now
 one_argument Γ wanted {before} {s1} {s2} {now} xs y {row} {longer} {x} {passed_x} so_far judged given another =
     subst (λ texts. Judges exprs_of before texts (arguments Γ before.texts wanted (c.exps (xs ++ (y ∷ [])))) longer now) (sym (literals-snoc xs y))
@@ -93,15 +92,13 @@ one_argument Γ wanted {before} {s1} {s2} {now} xs y {row} {longer} {x} {passed_
     ((another now).carries before s1 (literals_of (c.exps xs)) (literals y) (arguments Γ before.texts wanted (c.exps xs)) (λ texts. passed (drop (length xs) wanted) y (designated Γ texts y))
     so_far (given.carries s1 (literals y) (value Γ s1.texts y) judged)))
 
-pub one_effect : (Γ : Scope) {before s1 s2 now : Noted} (xs : List c.Exp) (y : c.Exp) {row longer : Option (Vec Expr Global)} {what : Option code_designated.Designated} {x : Option Expr} →
-    Found (effects Γ before.texts) before xs row s1 → Judges designated_of s1 (literals y) (designated Γ s1.texts y) what s2 →
-    Carries designated_of expr_of what s2 (effect_of y) x now → Another row x longer →
+pub one_effect : (Γ : Scope) {before s1 now : Noted} (xs : List c.Exp) (y : c.Exp) {row longer : Option (Vec Expr Global)} {x : Option (Box Expr Global)} →
+    Found (effects Γ before.texts) before xs row s1 → Judges boxed_of s1 (literals y) (effect_of Γ s1.texts y) x now → Another row x longer →
     Found (effects Γ before.texts) before (xs ++ (y ∷ [])) longer now
-one_effect Γ {before} {s1} {s2} {now} xs y {row} {longer} {what} {x} so_far judged done another =
+one_effect Γ {before} {s1} {now} xs y {row} {longer} {x} so_far judged another =
     subst (λ texts. Judges exprs_of before texts (effects Γ before.texts (c.exps (xs ++ (y ∷ [])))) longer now) (sym (literals-snoc xs y))
     (subst (λ j. Judges exprs_of before (literals_of (c.exps xs) ++ literals y) j longer now) (sym (effects-snoc Γ before.texts xs y))
-    ((another now).carries before s1 (literals_of (c.exps xs)) (literals y) (effects Γ before.texts (c.exps xs)) (λ texts. effect_of y (designated Γ texts y))
-    so_far (done.carries s1 (literals y) (designated Γ s1.texts y) judged)))
+    ((another now).carries before s1 (literals_of (c.exps xs)) (literals y) (effects Γ before.texts (c.exps xs)) (λ texts. effect_of Γ texts y) so_far judged))
 
 next-sources : (list : List source.Expr) (i : ℕ) (e : source.Expr) → i < length list → e ≡ get_or list i e → map source_of (take (i + 1) list) ≡ map source_of (take i list) ++ (source_of e ∷ [])
 next-sources list i e below is =
@@ -110,22 +107,21 @@ next-sources list i e below is =
 number-taken : (list : List source.Expr) (i : ℕ) → i < length list → length (map source_of (take i list)) ≡ i
 number-taken list i below = simp (length-map, length-take) (omega arith)
 
-pub next_argument : (Γ : Scope) (wanted left : List ValueType) (list : List source.Expr) (i : ℕ) (e : source.Expr) {before s1 s2 now : Noted} {row longer : Option (Vec Expr Global)} {x passed_x : Option Expr} →
+pub next_argument : (Γ : Scope) (wanted left : List ValueType) (list : List source.Expr) (i : ℕ) (e : source.Expr) {before s1 s2 now : Noted} {row longer : Option (Vec Expr Global)} {x passed_x : Option (Box Expr Global)} →
     i < length list → e ≡ get_or list i e → left ≡ drop i wanted →
-    Found (arguments Γ before.texts wanted) before (map source_of (take i list)) row s1 → Judges expr_of s1 (literals (source_of e)) (value Γ s1.texts (source_of e)) x s2 →
-    Carries expr_of expr_of x s2 (given_to left (source_of e)) passed_x now → Another row passed_x longer →
+    Found (arguments Γ before.texts wanted) before (map source_of (take i list)) row s1 → Judges boxed_of s1 (literals (source_of e)) (value Γ s1.texts (source_of e)) x s2 →
+    Carries boxed_of boxed_of x s2 (given_to left (source_of e)) passed_x now → Another row passed_x longer →
     Found (arguments Γ before.texts wanted) before (map source_of (take (i + 1) list)) longer now
 next_argument Γ wanted left list i e {before} {s1} {s2} {now} {row} {longer} {x} {passed_x} below is rest so_far judged given another =
     subst (λ xs. Found (arguments Γ before.texts wanted) before xs longer now) (sym (next-sources list i e below is))
     (one_argument Γ wanted (map source_of (take i list)) (source_of e) so_far judged
-    (subst (λ ws. Carries expr_of expr_of x s2 (given_to ws (source_of e)) passed_x now) (rest ∙ ap (λ k. drop k wanted) (sym (number-taken list i below))) given)
+    (subst (λ ws. Carries boxed_of boxed_of x s2 (given_to ws (source_of e)) passed_x now) (rest ∙ ap (λ k. drop k wanted) (sym (number-taken list i below))) given)
     another)
 
-pub next_effect : (Γ : Scope) (list : List source.Expr) (i : ℕ) (e : source.Expr) {before s1 s2 now : Noted} {row longer : Option (Vec Expr Global)} {what : Option code_designated.Designated} {x : Option Expr} →
+pub next_effect : (Γ : Scope) (list : List source.Expr) (i : ℕ) (e : source.Expr) {before s1 now : Noted} {row longer : Option (Vec Expr Global)} {x : Option (Box Expr Global)} →
     i < length list → e ≡ get_or list i e →
-    Found (effects Γ before.texts) before (map source_of (take i list)) row s1 → Judges designated_of s1 (literals (source_of e)) (designated Γ s1.texts (source_of e)) what s2 →
-    Carries designated_of expr_of what s2 (effect_of (source_of e)) x now → Another row x longer →
+    Found (effects Γ before.texts) before (map source_of (take i list)) row s1 → Judges boxed_of s1 (literals (source_of e)) (effect_of Γ s1.texts (source_of e)) x now → Another row x longer →
     Found (effects Γ before.texts) before (map source_of (take (i + 1) list)) longer now
-next_effect Γ list i e {before} {s1} {s2} {now} {row} {longer} below is so_far judged done another =
+next_effect Γ list i e {before} {s1} {now} {row} {longer} below is so_far judged another =
     subst (λ xs. Found (effects Γ before.texts) before xs longer now) (sym (next-sources list i e below is))
-    (one_effect Γ (map source_of (take i list)) (source_of e) so_far judged done another)
+    (one_effect Γ (map source_of (take i list)) (source_of e) so_far judged another)

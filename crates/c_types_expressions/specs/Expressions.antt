@@ -1,5 +1,6 @@
 -- What expressions mean by their types, and which rules they break.
-use Rattle.std.specs.Prelude.{pos, negsuc, List, [], ◌∷◌, ◌++◌, length, if◌then◌else◌}
+use Rattle.std.specs.Prelude.{ℕ, pos, negsuc, List, [], ◌∷◌, ◌++◌, length, if◌then◌else◌}
+use Rattle.ib_meaning.specs.declared.place.Place.{Place}
 use Rattle.c_ast.specs.Trees as c
 use Rattle.c_typed.specs.declared.types.ValueType.{ValueType}
 use Rattle.c_typed.specs.declared.types.ValueType.TheVariants as v
@@ -9,7 +10,7 @@ use Rattle.c_typed.specs.ValueTypes.{int, long, written}
 use Rattle.c_types_operators.specs.Rules.{Judged, Fine, both, pair, ◌>>=◌}
 use Rattle.c_layout.specs.Layout.{Texts}
 use Rattle.c_types_operators.specs.Scopes.{Scope, found}
-use Rattle.c_types_operators.specs.Operators.{Designated, used, stored_as, binary_value, conditional_value, is_logical, logical_value, within, assignment, index_value, argument_number, called, wanted, valued, placed, based, condition, passed, rest_of, value_as, cast_of, comma_value, postfix_of, unary_of, called_with, listed, effect_of, a_value}
+use Rattle.c_types_operators.specs.Operators.{Designated, used, stored_as, binary_value, conditional_value, is_logical, logical_value, within, assignment, index_value, argument_number, called, wanted, called_value, valued, placed, condition, passed, rest_of, value_as, cast_of, comma_value, postfix_of, unary_of, called_with, listed, a_value}
 
 -- the string literals of an expression, in order
 abbrev mutual
@@ -39,23 +40,21 @@ abbrev mutual
   designated Γ n (c.string p bytes) = Fine (a_value (t.text (length n)))
   designated Γ n (c.null p) = Fine (a_value (t.constant v.Null (pos 0)))
   designated Γ n (c.eof p) = Fine (a_value (t.constant int (negsuc 0)))
-  designated Γ n (c.call p x xs) =
-      both (called p (argument_number xs) (found x Γ)) (arguments Γ n (wanted (found x Γ)) xs) called_with
-  designated Γ n (c.index p a i) =
-      both (based a (designated Γ n a)) (valued i (designated Γ (n ++ literals a) i)) (index_value p a)
+  designated Γ n (c.call p x xs) = called_value p (found x Γ) (both (called p (argument_number xs) (found x Γ)) (arguments Γ n (wanted (found x Γ)) xs) called_with)
+  designated Γ n (c.index p a i) = both (designated Γ n a) (valued (designated Γ (n ++ literals a) i)) (index_value p)
   designated Γ n (c.postfix p op a) = postfix_of p op a (designated Γ n a)
   designated Γ n (c.unary p op a) = unary_of p op a (designated Γ n a)
-  designated Γ n (c.cast p ty a) = cast_of p (written ty) (valued a (designated Γ n a))
+  designated Γ n (c.cast p ty a) = cast_of p (written ty) (valued (designated Γ n a))
   designated Γ n (c.binary p op d e) =
       if is_logical op
       then both (condition d (designated Γ n d)) (condition e (designated Γ (n ++ literals d) e)) (logical_value op)
-      else both (valued d (designated Γ n d)) (valued e (designated Γ (n ++ literals d) e)) (binary_value p op d e)
+      else both (valued (designated Γ n d)) (valued (designated Γ (n ++ literals d) e)) (binary_value p op d e)
   designated Γ n (c.conditional p c d e) =
       both (condition c (designated Γ n c))
-      (pair (valued d (designated Γ (n ++ literals c) d)) (valued e (designated Γ (n ++ literals c ++ literals d) e)))
+      (pair (valued (designated Γ (n ++ literals c) d)) (valued (designated Γ (n ++ literals c ++ literals d) e)))
       (conditional_value p d e)
   designated Γ n (c.assign p op d e) =
-      both (placed d (designated Γ n d)) (valued e (designated Γ (n ++ literals d) e)) (assignment p (within op) e)
+      both (placed d (designated Γ n d)) (valued (designated Γ (n ++ literals d) e)) (assignment p (within op) e)
   designated Γ n (c.comma p xs) = value_as (comma_value p (arguments Γ n [] xs))
 
   -- as arguments for parameters of these types; there may be more
@@ -70,7 +69,7 @@ values Γ n xs = arguments Γ n [] xs
 
 -- the value of a whole expression
 abbrev pub value : Scope → Texts → c.Exp → Judged Exp
-value Γ n e = valued e (designated Γ n e)
+value Γ n e = valued (designated Γ n e)
 
 abbrev pub tested_value : Scope → Texts → c.Exp → Judged Exp
 tested_value Γ n e = condition e (designated Γ n e)
@@ -79,11 +78,20 @@ tested_value Γ n e = condition e (designated Γ n e)
 abbrev pub stored_value : Scope → Texts → ValueType → c.Exp → Judged Exp
 stored_value Γ n ty e = value Γ n e >>= stored_as ty e
 
+-- a call, for what it does, which may give nothing
+abbrev pub call_in : Scope → Texts → Place → List ℕ → c.Exps → Judged Exp
+call_in Γ n p x xs = both (called p (argument_number xs) (found x Γ)) (arguments Γ n (wanted (found x Γ)) xs) called_with
+
+-- an expression that stands for what it does, and is no comma expression
+abbrev pub effect_of : Scope → Texts → c.Exp → Judged Exp
+effect_of Γ n (c.call p x xs) = call_in Γ n p x xs
+effect_of Γ n e = value Γ n e
+
 abbrev pub effects : Scope → Texts → c.Exps → Judged Exps
 effects Γ n c.no_exp = Fine t.no_exp
-effects Γ n (c.an_exp x xs) = both (effect_of x (designated Γ n x)) (effects Γ (n ++ literals x) xs) listed
+effects Γ n (c.an_exp x xs) = both (effect_of Γ n x) (effects Γ (n ++ literals x) xs) listed
 
 -- an expression statement, or the first or last part of a `for`
 abbrev pub effect : Scope → Texts → c.Exp → Judged Exp
 effect Γ n (c.comma p xs) = comma_value p (effects Γ n xs)
-effect Γ n e = effect_of e (designated Γ n e)
+effect Γ n e = effect_of Γ n e

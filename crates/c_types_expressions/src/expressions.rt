@@ -3,19 +3,19 @@
 ghost use Rattle.std.specs.Prelude.{◌≡◌, ◌++◌, [], IfOk, map};
 ghost use Rattle.c_ast.specs.TreeViews as source;
 ghost use Rattle.c_ast.specs.Trees as c;
-ghost use Rattle.c_typed.specs.Views.{expr_of};
-ghost use Rattle.c_types_expressions.specs.Expressions.{designated, value, arguments, literals, literals_of, tested_value};
+ghost use Rattle.c_typed.specs.Views.{boxed_of};
+ghost use Rattle.c_types_expressions.specs.Expressions.{designated, value, call_in, arguments, literals, literals_of, tested_value};
 ghost use Rattle.c_types_operators.specs.Judging.{Judges};
 ghost use Rattle.c_types_operators.specs.Views.{designated_of, exprs_of};
 
 use crate::names::{called, used};
 use crate::parts;
 use c_ast::{AssignOp, BinaryOp, CType, PostfixOp, UnaryOp};
-use c_typed::{Expr, ValueType};
+use c_typed::{Expr, Rule, ValueType};
 use c_types_homes::written;
-use c_types_operators::calls::{both, rest_of, wanted};
+use c_types_operators::calls::{both, gives_nothing, rest_of, wanted};
 use c_types_operators::designated::Designated;
-use c_types_operators::literals::{character, end_of_file, null, number, text};
+use c_types_operators::literals::{character, end_of_file, literal, null, number, text};
 use c_types_operators::notes::Notes;
 use c_types_operators::operations::is_logical;
 use c_types_operators::scope::Scope;
@@ -34,17 +34,17 @@ pub fn designated<'a>(
     ensures { IfOk result (λ answer. Judges designated_of notes.old (literals (source.expr_of e.now)) (designated scope.now notes.old.texts (source.expr_of e.now)) answer notes.new) }
 {
     match e {
-        c_ast::Expr::Name { place, name } => used(scope, notes, *place, name),
-        c_ast::Expr::Number { value, long, .. } => Ok(Some(number(*value, *long))),
-        c_ast::Expr::Char { value, .. } => Ok(Some(character(*value))),
-        c_ast::Expr::Str { bytes, .. } => text(notes, bytes),
-        c_ast::Expr::Null { .. } => Ok(Some(null())),
-        c_ast::Expr::Eof { .. } => Ok(Some(end_of_file())),
+        c_ast::Expr::Name { place, name } => used(alloc, scope, notes, *place, name),
+        c_ast::Expr::Number { value, long, .. } => literal(alloc, number(*value, *long)),
+        c_ast::Expr::Char { value, .. } => literal(alloc, character(*value)),
+        c_ast::Expr::Str { bytes, .. } => text(alloc, notes, bytes),
+        c_ast::Expr::Null { .. } => literal(alloc, null()),
+        c_ast::Expr::Eof { .. } => literal(alloc, end_of_file()),
         c_ast::Expr::Call {
             place,
             name,
             arguments,
-        } => call(alloc, scope, notes, *place, name, arguments),
+        } => called_value(alloc, scope, notes, *place, name, arguments),
         c_ast::Expr::Index { place, base, index } => {
             indexed(alloc, scope, notes, *place, base, index)
         }
@@ -84,11 +84,11 @@ pub fn value<'a>(
     scope: &Scope<'a, '_>,
     notes: &mut Notes<'a>,
     e: &'a c_ast::Expr,
-) -> Result<Option<Expr>, AllocError>
-    ensures { IfOk result (λ answer. Judges expr_of notes.old (literals (source.expr_of e.now)) (value scope.now notes.old.texts (source.expr_of e.now)) answer notes.new) }
+) -> Result<Option<Box<Expr>>, AllocError>
+    ensures { IfOk result (λ answer. Judges boxed_of notes.old (literals (source.expr_of e.now)) (value scope.now notes.old.texts (source.expr_of e.now)) answer notes.new) }
 {
     let what = designated(alloc, scope, notes, e)?;
-    let answer = parts::valued(alloc, notes, e, what)?;
+    let answer = parts::valued(alloc, what)?;
     Ok(answer)
 }
 
@@ -99,8 +99,8 @@ pub fn tested_value<'a>(
     scope: &Scope<'a, '_>,
     notes: &mut Notes<'a>,
     e: &'a c_ast::Expr,
-) -> Result<Option<Expr>, AllocError>
-    ensures { IfOk result (λ answer. Judges expr_of notes.old (literals (source.expr_of e.now)) (tested_value scope.now notes.old.texts (source.expr_of e.now)) answer notes.new) }
+) -> Result<Option<Box<Expr>>, AllocError>
+    ensures { IfOk result (λ answer. Judges boxed_of notes.old (literals (source.expr_of e.now)) (tested_value scope.now notes.old.texts (source.expr_of e.now)) answer notes.new) }
 {
     let x = value(alloc, scope, notes, e)?;
     Ok(parts::tested(notes, e, x))
@@ -167,9 +167,8 @@ fn indexed<'a>(
     ensures { IfOk result (λ answer. Judges designated_of notes.old (literals (source.expr_of base.now) ++ literals (source.expr_of index.now)) (designated scope.now notes.old.texts (c.index place (source.expr_of base.now) (source.expr_of index.now))) answer notes.new) }
 {
     let what = designated(alloc, scope, notes, base)?;
-    let what = parts::based(notes, base, what);
     let i = value(alloc, scope, notes, index)?;
-    let answer = parts::index(alloc, notes, place, base, what, i)?;
+    let answer = parts::index(alloc, notes, place, what, i)?;
     Ok(answer)
 }
 
@@ -259,8 +258,28 @@ pub fn arguments<'a>(
     Ok(typed)
 }
 
+/// A call, for what it does, which may give nothing.
 #[cycle(expressions)]
-fn call<'a>(
+pub fn call<'a>(
+    alloc: Global,
+    scope: &Scope<'a, '_>,
+    notes: &mut Notes<'a>,
+    place: Place,
+    name: &Text,
+    list: &'a [c_ast::Expr],
+) -> Result<Option<Box<Expr>>, AllocError>
+    ensures { IfOk result (λ answer. Judges boxed_of notes.old (literals_of (c.exps (map source.expr_of list.now))) (call_in scope.now notes.old.texts place name.now (c.exps (map source.expr_of list.now))) answer notes.new) }
+{
+    let meant = scope.find(name.list());
+    let function = called(notes, place, list.len(), meant);
+    let typed = arguments(alloc, scope, notes, wanted(meant), list)?;
+    let answer = parts::call(alloc, function, typed)?;
+    Ok(answer)
+}
+
+/// A call, for its value. One that gives nothing breaks a rule whatever its arguments break.
+#[cycle(expressions)]
+fn called_value<'a>(
     alloc: Global,
     scope: &Scope<'a, '_>,
     notes: &mut Notes<'a>,
@@ -271,10 +290,14 @@ fn call<'a>(
     ensures { IfOk result (λ answer. Judges designated_of notes.old (literals_of (c.exps (map source.expr_of list.now))) (designated scope.now notes.old.texts (c.call place name.now (c.exps (map source.expr_of list.now)))) answer notes.new) }
 {
     let meant = scope.find(name.list());
-    let function = called(notes, place, list.len(), meant);
-    let typed = arguments(alloc, scope, notes, wanted(meant), list)?;
-    let answer = parts::call(alloc, function, typed)?;
-    Ok(answer)
+    if gives_nothing(meant) {
+        notes.breaks(Rule::WrongOperands, place);
+        let unused = call(alloc, scope, notes, place, name, list)?;
+        drop(unused);
+        return Ok(None);
+    }
+    let x = call(alloc, scope, notes, place, name, list)?;
+    Ok(parts::as_value(x))
 }
 
 #[cycle(expressions)]

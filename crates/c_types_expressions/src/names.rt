@@ -8,15 +8,16 @@ ghost use Rattle.c_types_operators.specs.Operators.{used, used_as, called, calle
 ghost use Rattle.c_types_operators.specs.Judging.{Judges};
 ghost use Rattle.c_types_operators.specs.Views.{designated_of};
 
+use c_typed::Rule;
 use c_types_operators::designated::Designated;
 use c_types_operators::notes::Notes;
 use c_types_operators::operators::used_variable;
-use c_types_operators::rule::Rule;
 use c_types_operators::scope::{Function, Meant, Scope};
 use ib_base::{Place, Text};
-use std::alloc::AllocError;
+use std::alloc::{AllocError, Global};
 
 fn used_as(
+    alloc: Global,
     notes: &mut Notes<'_>,
     place: Place,
     meant: Meant<'_>,
@@ -24,7 +25,7 @@ fn used_as(
     ensures { IfOk result (λ answer. Judges designated_of notes.old [] (used_as place (meant_of meant.entry)) answer notes.new) }
 {
     match meant {
-        Meant::Variable(variable) => Ok(Some(used_variable(variable)?)),
+        Meant::Variable(variable) => Ok(Some(used_variable(alloc, variable)?)),
         Meant::Function(_) => {
             notes.breaks(Rule::NotAFunction, place);
             Ok(None)
@@ -34,6 +35,7 @@ fn used_as(
 
 /// A name that is used, but not called.
 pub fn used(
+    alloc: Global,
     scope: &Scope<'_, '_>,
     notes: &mut Notes<'_>,
     place: Place,
@@ -42,7 +44,7 @@ pub fn used(
     ensures { IfOk result (λ answer. Judges designated_of notes.old [] (used place (found name.now scope.now)) answer notes.new) }
 {
     match scope.find(name.list()) {
-        Some(meant) => used_as(notes, place, meant),
+        Some(meant) => used_as(alloc, notes, place, meant),
         None => {
             notes.breaks(Rule::UnknownName, place);
             Ok(None)

@@ -2,9 +2,9 @@
 
 ghost use Rattle.std.specs.Prelude.{IfOk};
 ghost use Rattle.c_ast.specs.TreeViews as source;
-ghost use Rattle.c_typed.specs.Views.{expr_of};
+ghost use Rattle.c_typed.specs.Views.{boxed_of};
 ghost use Rattle.c_types_operators.specs.ScopeViews.{function_of};
-ghost use Rattle.c_types_operators.specs.Operators.{valued, tested_of, based, placed, given_to, postfix_of, unary_of, cast_of, index_value, logical_value, binary_value, conditional_value, assignment, within, called_with, comma_value, value_as, effect_of, appended};
+ghost use Rattle.c_types_operators.specs.Operators.{valued, tested_of, placed, given_to, postfix_of, unary_of, cast_of, index_value, logical_value, binary_value, conditional_value, assignment, within, called_with, comma_value, value_as, appended};
 ghost use Rattle.c_types_operators.specs.Judging.{Noted, Carries, CarriesBoth};
 ghost use Rattle.c_types_operators.specs.Views.{designated_of, target_of, exprs_of, branches_of};
 
@@ -19,39 +19,24 @@ use ib_base::Place;
 use std::alloc::{AllocError, Global};
 
 /// The value of an operand.
-pub fn valued(
-    alloc: Global,
-    notes: &mut Notes<'_>,
-    e: &c_ast::Expr,
-    part: Option<Designated>,
-) -> Result<Option<Expr>, AllocError>
-    ensures { IfOk result (λ answer. Carries designated_of expr_of part notes.old (valued (source.expr_of e.now)) answer notes.new) }
+pub fn valued(alloc: Global, part: Option<Designated>) -> Result<Option<Box<Expr>>, AllocError>
+    ensures { IfOk result (λ answer. (now : Noted) → Carries designated_of boxed_of part now valued answer now) }
 {
     match part {
         Some(x) => {
-            let answer = operators::valued(alloc, notes, Operand::new(e, x))?;
-            Ok(answer)
+            let value = operators::value_of(alloc, x)?;
+            Ok(Some(value))
         }
         None => Ok(None),
     }
 }
 
 /// A condition, or an operand of `!`, `&&` or `||`.
-pub fn tested(notes: &mut Notes<'_>, e: &c_ast::Expr, part: Option<Expr>) -> Option<Expr>
-    ensures { Carries expr_of expr_of part notes.old (tested_of (source.expr_of e.now)) result notes.new }
+pub fn tested(notes: &mut Notes<'_>, e: &c_ast::Expr, part: Option<Box<Expr>>) -> Option<Box<Expr>>
+    ensures { Carries boxed_of boxed_of part notes.old (tested_of (source.expr_of e.now)) result notes.new }
 {
     match part {
         Some(x) => operators::tested(notes, e, x),
-        None => None,
-    }
-}
-
-/// What stands before `[`.
-pub fn based(notes: &mut Notes<'_>, e: &c_ast::Expr, part: Option<Designated>) -> Option<Designated>
-    ensures { Carries designated_of designated_of part notes.old (based (source.expr_of e.now)) result notes.new }
-{
-    match part {
-        Some(x) => operations::based(notes, Operand::new(e, x)),
         None => None,
     }
 }
@@ -80,9 +65,9 @@ pub fn passed(
     notes: &mut Notes<'_>,
     wanted: &[ValueType],
     e: &c_ast::Expr,
-    part: Option<Expr>,
-) -> Result<Option<Expr>, AllocError>
-    ensures { IfOk result (λ answer. Carries expr_of expr_of part notes.old (given_to wanted.now (source.expr_of e.now)) answer notes.new) }
+    part: Option<Box<Expr>>,
+) -> Result<Option<Box<Expr>>, AllocError>
+    ensures { IfOk result (λ answer. Carries boxed_of boxed_of part notes.old (given_to wanted.now (source.expr_of e.now)) answer notes.new) }
 {
     match part {
         Some(x) => {
@@ -136,9 +121,9 @@ pub fn cast(
     notes: &mut Notes<'_>,
     place: Place,
     to: ValueType,
-    part: Option<Expr>,
+    part: Option<Box<Expr>>,
 ) -> Result<Option<Designated>, AllocError>
-    ensures { IfOk result (λ answer. Carries expr_of designated_of part notes.old (cast_of place to) answer notes.new) }
+    ensures { IfOk result (λ answer. Carries boxed_of designated_of part notes.old (cast_of place to) answer notes.new) }
 {
     match part {
         Some(x) => {
@@ -155,8 +140,8 @@ pub fn comma(
     notes: &mut Notes<'_>,
     place: Place,
     part: Option<Vec<Expr>>,
-) -> Result<Option<Expr>, AllocError>
-    ensures { IfOk result (λ answer. Carries exprs_of expr_of part notes.old (comma_value place) answer notes.new) }
+) -> Result<Option<Box<Expr>>, AllocError>
+    ensures { IfOk result (λ answer. Carries exprs_of boxed_of part notes.old (comma_value place) answer notes.new) }
 {
     match part {
         Some(x) => {
@@ -168,8 +153,8 @@ pub fn comma(
 }
 
 /// What an expression is that is a value.
-pub fn as_value(part: Option<Expr>) -> Option<Designated>
-    ensures { (now : Noted) → Carries expr_of designated_of part now value_as result now }
+pub fn as_value(part: Option<Box<Expr>>) -> Option<Designated>
+    ensures { (now : Noted) → Carries boxed_of designated_of part now value_as result now }
 {
     match part {
         Some(x) => Some(Designated::Value(x)),
@@ -177,27 +162,12 @@ pub fn as_value(part: Option<Expr>) -> Option<Designated>
     }
 }
 
-/// An expression that stands for what it does.
-pub fn effect(
-    alloc: Global,
-    notes: &mut Notes<'_>,
-    e: &c_ast::Expr,
-    part: Option<Designated>,
-) -> Result<Option<Expr>, AllocError>
-    ensures { IfOk result (λ answer. Carries designated_of expr_of part notes.old (effect_of (source.expr_of e.now)) answer notes.new) }
-{
-    match part {
-        Some(x) => {
-            let answer = operators::effect_value(alloc, notes, nodes::anchor(e), x)?;
-            Ok(answer)
-        }
-        None => Ok(None),
-    }
-}
-
 /// A list with one more at its end.
-pub fn another(list: Option<Vec<Expr>>, x: Option<Expr>) -> Result<Option<Vec<Expr>>, AllocError>
-    ensures { IfOk result (λ answer. (now : Noted) → CarriesBoth exprs_of expr_of exprs_of list x now appended answer now) }
+pub fn another(
+    list: Option<Vec<Expr>>,
+    x: Option<Box<Expr>>,
+) -> Result<Option<Vec<Expr>>, AllocError>
+    ensures { IfOk result (λ answer. (now : Noted) → CarriesBoth exprs_of boxed_of exprs_of list x now appended answer now) }
 {
     match calls::both(list, x) {
         Some((list, x)) => {
@@ -213,15 +183,13 @@ pub fn index(
     alloc: Global,
     notes: &mut Notes<'_>,
     place: Place,
-    e: &c_ast::Expr,
     base: Option<Designated>,
-    index: Option<Expr>,
+    index: Option<Box<Expr>>,
 ) -> Result<Option<Designated>, AllocError>
-    ensures { IfOk result (λ answer. CarriesBoth designated_of expr_of designated_of base index notes.old (index_value place (source.expr_of e.now)) answer notes.new) }
+    ensures { IfOk result (λ answer. CarriesBoth designated_of boxed_of designated_of base index notes.old (index_value place) answer notes.new) }
 {
     match calls::both(base, index) {
         Some((base, index)) => {
-            let base = Operand::new(e, base);
             let answer = operations::index_value(alloc, notes, place, base, index)?;
             Ok(answer)
         }
@@ -233,10 +201,10 @@ pub fn index(
 pub fn logical(
     alloc: Global,
     op: BinaryOp,
-    left: Option<Expr>,
-    right: Option<Expr>,
+    left: Option<Box<Expr>>,
+    right: Option<Box<Expr>>,
 ) -> Result<Option<Designated>, AllocError>
-    ensures { IfOk result (λ answer. (now : Noted) → CarriesBoth expr_of expr_of designated_of left right now (logical_value op) answer now) }
+    ensures { IfOk result (λ answer. (now : Noted) → CarriesBoth boxed_of boxed_of designated_of left right now (logical_value op) answer now) }
 {
     match calls::both(left, right) {
         Some((left, right)) => {
@@ -253,10 +221,10 @@ pub fn binary(
     place: Place,
     op: BinaryOp,
     sources: (&c_ast::Expr, &c_ast::Expr),
-    left: Option<Expr>,
-    right: Option<Expr>,
+    left: Option<Box<Expr>>,
+    right: Option<Box<Expr>>,
 ) -> Result<Option<Designated>, AllocError>
-    ensures { IfOk result (λ answer. CarriesBoth expr_of expr_of designated_of left right notes.old (binary_value place op (source.expr_of sources.entry.0.now) (source.expr_of sources.entry.1.now)) answer notes.new) }
+    ensures { IfOk result (λ answer. CarriesBoth boxed_of boxed_of designated_of left right notes.old (binary_value place op (source.expr_of sources.entry.0.now) (source.expr_of sources.entry.1.now)) answer notes.new) }
 {
     match calls::both(left, right) {
         Some((left, right)) => {
@@ -274,10 +242,10 @@ pub fn conditional(
     notes: &mut Notes<'_>,
     place: Place,
     sources: (&c_ast::Expr, &c_ast::Expr),
-    test: Option<Expr>,
-    branches: Option<(Expr, Expr)>,
+    test: Option<Box<Expr>>,
+    branches: Option<(Box<Expr>, Box<Expr>)>,
 ) -> Result<Option<Designated>, AllocError>
-    ensures { IfOk result (λ answer. CarriesBoth expr_of branches_of designated_of test branches notes.old (conditional_value place (source.expr_of sources.entry.0.now) (source.expr_of sources.entry.1.now)) answer notes.new) }
+    ensures { IfOk result (λ answer. CarriesBoth boxed_of branches_of designated_of test branches notes.old (conditional_value place (source.expr_of sources.entry.0.now) (source.expr_of sources.entry.1.now)) answer notes.new) }
 {
     match calls::both(test, branches) {
         Some((test, branches)) => {
@@ -297,9 +265,9 @@ pub fn assignment(
     op: AssignOp,
     e: &c_ast::Expr,
     target: Option<Target>,
-    value: Option<Expr>,
+    value: Option<Box<Expr>>,
 ) -> Result<Option<Designated>, AllocError>
-    ensures { IfOk result (λ answer. CarriesBoth target_of expr_of designated_of target value notes.old (assignment place (within op) (source.expr_of e.now)) answer notes.new) }
+    ensures { IfOk result (λ answer. CarriesBoth target_of boxed_of designated_of target value notes.old (assignment place (within op) (source.expr_of e.now)) answer notes.new) }
 {
     match calls::both(target, value) {
         Some((target, value)) => {
@@ -315,8 +283,8 @@ pub fn call(
     alloc: Global,
     function: Option<Function<'_>>,
     arguments: Option<Vec<Expr>>,
-) -> Result<Option<Designated>, AllocError>
-    ensures { IfOk result (λ answer. (now : Noted) → CarriesBoth function_of exprs_of designated_of function.entry arguments now called_with answer now) }
+) -> Result<Option<Box<Expr>>, AllocError>
+    ensures { IfOk result (λ answer. (now : Noted) → CarriesBoth function_of exprs_of boxed_of function.entry arguments now called_with answer now) }
 {
     match calls::both(function, arguments) {
         Some((function, arguments)) => {

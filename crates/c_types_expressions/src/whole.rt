@@ -3,13 +3,12 @@
 ghost use Rattle.std.specs.Prelude.{[], IfOk, map};
 ghost use Rattle.c_ast.specs.TreeViews as source;
 ghost use Rattle.c_ast.specs.Trees as c;
-ghost use Rattle.c_typed.specs.Views.{expr_of};
-ghost use Rattle.c_types_expressions.specs.Expressions.{literals, literals_of, designated, values, stored_value, effect, effects};
-ghost use Rattle.c_types_operators.specs.Operators.{effect_of};
+ghost use Rattle.c_typed.specs.Views.{boxed_of};
+ghost use Rattle.c_types_expressions.specs.Expressions.{literals, literals_of, values, stored_value, effect, effect_of, effects};
 ghost use Rattle.c_types_operators.specs.Judging.{Judges};
 ghost use Rattle.c_types_operators.specs.Views.{exprs_of};
 
-use crate::expressions::{arguments, designated, value};
+use crate::expressions::{arguments, call, value};
 use crate::parts;
 use c_typed::{Expr, ValueType};
 use c_types_operators::notes::Notes;
@@ -36,8 +35,8 @@ pub fn stored_value<'a>(
     notes: &mut Notes<'a>,
     ty: ValueType,
     e: &'a c_ast::Expr,
-) -> Result<Option<Expr>, AllocError>
-    ensures { IfOk result (λ answer. Judges expr_of notes.old (literals (source.expr_of e.now)) (stored_value scope.now notes.old.texts ty (source.expr_of e.now)) answer notes.new) }
+) -> Result<Option<Box<Expr>>, AllocError>
+    ensures { IfOk result (λ answer. Judges boxed_of notes.old (literals (source.expr_of e.now)) (stored_value scope.now notes.old.texts ty (source.expr_of e.now)) answer notes.new) }
 {
     let x = value(alloc, scope, notes, e)?;
     let answer = parts::passed(alloc, notes, &[ty], e, x)?;
@@ -54,25 +53,42 @@ fn effects<'a>(
 {
     let mut typed = Some(Vec::new(alloc));
     for e in list {
-        let what = designated(alloc, scope, notes, e)?;
-        let x = parts::effect(alloc, notes, e, what)?;
+        let x = effect_of(alloc, scope, notes, e)?;
         typed = parts::another(typed, x)?;
     }
     Ok(typed)
 }
 
-fn plain_effect<'a>(
+/// An expression that stands for what it does, and is no comma expression: a call may give nothing.
+fn effect_of<'a>(
     alloc: Global,
     scope: &Scope<'a, '_>,
     notes: &mut Notes<'a>,
     e: &'a c_ast::Expr,
-) -> Result<Option<Expr>, AllocError>
-    ensures { let x = source.expr_of e.now in
-        IfOk result (λ answer. Judges expr_of notes.old (literals x) (effect_of x (designated scope.now notes.old.texts x)) answer notes.new) }
+) -> Result<Option<Box<Expr>>, AllocError>
+    ensures { IfOk result (λ answer. Judges boxed_of notes.old (literals (source.expr_of e.now)) (effect_of scope.now notes.old.texts (source.expr_of e.now)) answer notes.new) }
 {
-    let what = designated(alloc, scope, notes, e)?;
-    let answer = parts::effect(alloc, notes, e, what)?;
-    Ok(answer)
+    match e {
+        c_ast::Expr::Call {
+            place,
+            name,
+            arguments,
+        } => call(alloc, scope, notes, *place, name, arguments),
+        c_ast::Expr::Name { .. } => value(alloc, scope, notes, e),
+        c_ast::Expr::Number { .. } => value(alloc, scope, notes, e),
+        c_ast::Expr::Char { .. } => value(alloc, scope, notes, e),
+        c_ast::Expr::Str { .. } => value(alloc, scope, notes, e),
+        c_ast::Expr::Null { .. } => value(alloc, scope, notes, e),
+        c_ast::Expr::Eof { .. } => value(alloc, scope, notes, e),
+        c_ast::Expr::Index { .. } => value(alloc, scope, notes, e),
+        c_ast::Expr::Postfix { .. } => value(alloc, scope, notes, e),
+        c_ast::Expr::Unary { .. } => value(alloc, scope, notes, e),
+        c_ast::Expr::Cast { .. } => value(alloc, scope, notes, e),
+        c_ast::Expr::Binary { .. } => value(alloc, scope, notes, e),
+        c_ast::Expr::Conditional { .. } => value(alloc, scope, notes, e),
+        c_ast::Expr::Assign { .. } => value(alloc, scope, notes, e),
+        c_ast::Expr::Comma { .. } => value(alloc, scope, notes, e),
+    }
 }
 
 /// An expression statement, or the first or last part of a `for`: a call that gives no value may
@@ -82,8 +98,8 @@ pub fn effect<'a>(
     scope: &Scope<'a, '_>,
     notes: &mut Notes<'a>,
     e: &'a c_ast::Expr,
-) -> Result<Option<Expr>, AllocError>
-    ensures { IfOk result (λ answer. Judges expr_of notes.old (literals (source.expr_of e.now)) (effect scope.now notes.old.texts (source.expr_of e.now)) answer notes.new) }
+) -> Result<Option<Box<Expr>>, AllocError>
+    ensures { IfOk result (λ answer. Judges boxed_of notes.old (literals (source.expr_of e.now)) (effect scope.now notes.old.texts (source.expr_of e.now)) answer notes.new) }
 {
     match e {
         c_ast::Expr::Comma { place, parts } => {
@@ -91,19 +107,19 @@ pub fn effect<'a>(
             let answer = parts::comma(alloc, notes, *place, typed)?;
             Ok(answer)
         }
-        c_ast::Expr::Name { .. } => plain_effect(alloc, scope, notes, e),
-        c_ast::Expr::Number { .. } => plain_effect(alloc, scope, notes, e),
-        c_ast::Expr::Char { .. } => plain_effect(alloc, scope, notes, e),
-        c_ast::Expr::Str { .. } => plain_effect(alloc, scope, notes, e),
-        c_ast::Expr::Null { .. } => plain_effect(alloc, scope, notes, e),
-        c_ast::Expr::Eof { .. } => plain_effect(alloc, scope, notes, e),
-        c_ast::Expr::Call { .. } => plain_effect(alloc, scope, notes, e),
-        c_ast::Expr::Index { .. } => plain_effect(alloc, scope, notes, e),
-        c_ast::Expr::Postfix { .. } => plain_effect(alloc, scope, notes, e),
-        c_ast::Expr::Unary { .. } => plain_effect(alloc, scope, notes, e),
-        c_ast::Expr::Cast { .. } => plain_effect(alloc, scope, notes, e),
-        c_ast::Expr::Binary { .. } => plain_effect(alloc, scope, notes, e),
-        c_ast::Expr::Conditional { .. } => plain_effect(alloc, scope, notes, e),
-        c_ast::Expr::Assign { .. } => plain_effect(alloc, scope, notes, e),
+        c_ast::Expr::Name { .. } => effect_of(alloc, scope, notes, e),
+        c_ast::Expr::Number { .. } => effect_of(alloc, scope, notes, e),
+        c_ast::Expr::Char { .. } => effect_of(alloc, scope, notes, e),
+        c_ast::Expr::Str { .. } => effect_of(alloc, scope, notes, e),
+        c_ast::Expr::Null { .. } => effect_of(alloc, scope, notes, e),
+        c_ast::Expr::Eof { .. } => effect_of(alloc, scope, notes, e),
+        c_ast::Expr::Call { .. } => effect_of(alloc, scope, notes, e),
+        c_ast::Expr::Index { .. } => effect_of(alloc, scope, notes, e),
+        c_ast::Expr::Postfix { .. } => effect_of(alloc, scope, notes, e),
+        c_ast::Expr::Unary { .. } => effect_of(alloc, scope, notes, e),
+        c_ast::Expr::Cast { .. } => effect_of(alloc, scope, notes, e),
+        c_ast::Expr::Binary { .. } => effect_of(alloc, scope, notes, e),
+        c_ast::Expr::Conditional { .. } => effect_of(alloc, scope, notes, e),
+        c_ast::Expr::Assign { .. } => effect_of(alloc, scope, notes, e),
     }
 }

@@ -2,8 +2,11 @@
 use Rattle.std.proofs.Common.{◌≡◌, refl, ap, sym, ◌∙◌, List, [], ◌∷◌, ◌++◌, Option, Some, None, true, false, subst}
 use Rattle.std.specs.Option.{option_map}
 use Rattle.std.proofs.lemmas.List.{append-nil, append_assoc}
+use Rattle.ib_meaning.specs.declared.place.Place.{Place}
+use Rattle.c_typed.specs.declared.rule.Rule.{Rule}
 use Rattle.c_types_operators.specs.declared.rule.Breach.{Breach}
 use Rattle.c_types_operators.specs.Rules.{Judged, Fine, Broken, breaches, both, pair, ◌>>=◌, first_from, earlier}
+use Rattle.c_types_operators.specs.Parts.{breach, misplaced}
 use Rattle.c_layout.specs.Layout.{Texts}
 use Rattle.c_types_operators.specs.Judging.{Noted, noted, kept, both_some, Judges, judges}
 
@@ -51,6 +54,10 @@ texts-of s now xs found e = ap (λ n. n.texts) e ∙ noted-texts s xs found
 module _ {X A : Type 0} {view : X → A} {s now : Noted} where
   pub fine : {j : Judged A} (x : X) → j ≡ Fine (view x) → now ≡ s → Judges view s [] j (Some x) now
   fine x is same = subst (λ k. Judges view s [] k (Some x) now) (sym is) (judges refl (same ∙ sym (noted-none s)))
+
+  -- behind a string literal
+  pub fine_behind : {j : Judged A} {xs : Texts} (x : X) → j ≡ Fine (view x) → now ≡ noted s xs [] → Judges view s xs j (Some x) now
+  fine_behind {xs = xs} x is same = subst (λ k. Judges view s xs k (Some x) now) (sym is) (judges refl same)
 
   pub broken : {j : Judged A} (b : Breach) → j ≡ Broken (b ∷ []) → now ≡ noted s [] (b ∷ []) → Judges view s [] j None now
   broken b is same = subst (λ k. Judges view s [] k None now) (sym is) (judges refl same)
@@ -177,3 +184,11 @@ pub paired_when : {X A Y B : Type 0} {u : X → A} {v : Y → B} {s s1 s2 : Note
     both ≡ both_some x y → Judges u s xs j x s1 → Judges v s1 ys (K s1.texts) y s2 → Judges (paired_view u v) s (xs ++ ys) (pair j (K (s.texts ++ xs))) both s2
 paired_when {u = u} {v = v} {s} {s1} {s2} {xs} {ys} {j} K is h1 h2 =
     subst (λ z. Judges (paired_view u v) s (xs ++ ys) (pair j (K (s.texts ++ xs))) z s2) (sym is) (paired K h1 h2)
+
+-- a part that breaks a rule by standing where it does, which is noted before the part is judged
+pub misplaced_first : {X A Y B : Type 0} {u : X → A} {v : Y → B} {s s1 now : Noted} {xs : Texts} {x : Option X} (K : Texts → Judged A) (rule : Rule) (place : Place) →
+    s1 ≡ noted s [] (breach rule place ∷ []) → Judges u s1 xs (K s1.texts) x now → Judges v s xs (misplaced rule place (K s.texts)) None now
+misplaced_first {u = u} {v = v} {s} {s1} {now} {xs} {x} K rule place is h =
+    let same : s1.texts ≡ s.texts = texts-of s s1 [] (breach rule place ∷ []) is ∙ append-nil s.texts in
+    let judged : Judges u s1 xs (K s.texts) x now = subst (λ texts. Judges u s1 xs (K texts) x now) same h in
+    judges refl (noted-is judged ∙ (ap (λ t. noted t xs (breaches (K s.texts))) is ∙ noted-join s [] xs (breach rule place ∷ []) (breaches (K s.texts))))

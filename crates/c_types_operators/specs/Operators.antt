@@ -9,10 +9,8 @@ use Rattle.c_ast.specs.declared.tree.PostfixOp.{PostfixOp}
 use Rattle.c_ast.specs.declared.tree.PostfixOp.TheVariants as f
 use Rattle.c_ast.specs.declared.tree.UnaryOp.{UnaryOp}
 use Rattle.c_ast.specs.declared.tree.UnaryOp.TheVariants as u
-use Rattle.c_ast.specs.declared.tree.Base.TheVariants.{Void, Char}
 use Rattle.c_ast.specs.Trees as c
 use Rattle.c_typed.specs.declared.types.ValueType.{ValueType}
-use Rattle.c_typed.specs.declared.types.ValueType.TheVariants as v
 use Rattle.c_typed.specs.declared.expr.Storage.{Storage}
 use Rattle.c_typed.specs.declared.expr.Reach.{Reach}
 use Rattle.c_typed.specs.declared.expr.Reach.TheVariants.{Inside, ToEnd}
@@ -21,12 +19,14 @@ use Rattle.c_typed.specs.declared.operation.Sign.TheVariants as s
 use Rattle.c_typed.specs.declared.operation.Operation.TheVariants as o
 use Rattle.c_typed.specs.Tree as t
 use Rattle.c_typed.specs.Tree.{Exp, Exps}
-use Rattle.c_typed.specs.ValueTypes.{int, pointer_to, pointee, size_of, is_integer, is_pointer, leads, same_type, promoted_rank, ranked}
+use Rattle.c_typed.specs.ExprTypes.{type_of}
+use Rattle.c_typed.specs.ValueTypes.{int, is_void, pointer_to, pointee, size_of, is_integer, is_pointer, leads, same_type, promoted_rank, ranked}
 use Rattle.c_typed.specs.declared.choice.Operand.{Operand}
 use Rattle.c_typed.specs.declared.choice.Choice.{Choice}
 use Rattle.c_typed.specs.Choices.{chosen, branches, fits}
-use Rattle.c_types_operators.specs.declared.rule.Rule.TheVariants.{UnknownName, NotAPlace, NotACondition, WrongOperands, NotAssignable, NotAFunction, ArgumentCount}
+use Rattle.c_typed.specs.declared.rule.Rule.TheVariants.{UnknownName, NotAPlace, NotACondition, WrongOperands, NotAssignable, NotAFunction, ArgumentCount}
 use Rattle.c_types_operators.specs.Rules.{Judged, Fine, breaks, ◌>>=◌, or_breaks}
+use Rattle.c_types_operators.specs.Parts.{misplaced}
 use Rattle.c_layout.specs.declared.shape.Shape.{Shape}
 use Rattle.c_layout.specs.declared.shape.Shape.TheVariants.{Scalar, Array}
 use Rattle.c_types_operators.specs.declared.scope.Lives.{Lives}
@@ -59,32 +59,6 @@ is_null (c.null p) = true
 is_null (c.number p (pos zero) l) = true
 is_null x = false
 
-abbrev pub type_of : Exp → ValueType
-type_of (t.constant ty v) = ty
-type_of (t.text n) = pointer_to (v.Base Char)
-type_of (t.address ty of) = ty
-type_of (t.element ty storage n size reach i) = ty
-type_of (t.slot ty n) = ty
-type_of (t.load ty a) = ty
-type_of (t.convert to a) = to
-type_of (t.unary op rank a) = ranked rank
-type_of (t.not a) = int
-type_of (t.binary ty op x y) = ty
-type_of (t.both x y) = int
-type_of (t.either x y) = int
-type_of (t.conditional ty x y z) = ty
-type_of (t.set_slot ty n x) = ty
-type_of (t.store ty a x) = ty
-type_of (t.update_slot ty n within op x) = ty
-type_of (t.update ty a within op x) = ty
-type_of (t.step_slot ty n within op) = ty
-type_of (t.step ty a within op) = ty
-type_of (t.call ty g xs) = ty
-type_of t.get_byte = int
-type_of (t.put_byte x) = int
-type_of (t.put_number x) = v.Base Void
-type_of (t.comma xs x) = type_of x
-
 abbrev pub operand : c.Exp → Exp → Operand
 operand e x = record { ty = type_of x; is_null = is_null e }
 
@@ -92,7 +66,7 @@ operand e x = record { ty = type_of x; is_null = is_null e }
 abbrev pub converted : ValueType → Exp → Exp
 converted to x = if same_type (type_of x) to then x else t.convert to x
 
--- What an expression is: a value, a variable or other place, an array, or a call that gives no value.
+-- What an expression is: a value, a variable or other place, or an array.
 pub data Designated : Type 0 where
   a_value : Exp → Designated
   a_slot : ValueType → ℕ → Designated
@@ -101,19 +75,17 @@ pub data Designated : Type 0 where
   -- an element of a declared array
   an_element : ValueType → Storage → (length : ℕ) → (index : Exp) → Designated
   an_array : ValueType → Storage → (length : ℕ) → Designated
-  no_value : Exp → Designated
 
 abbrev pub element_at : Reach → ValueType → Storage → ℕ → Exp → Exp
 element_at reach ty at length i = t.element (pointer_to ty) at length (size_of ty) reach i
 
 -- its value: what the place holds, and the address of an array's first element
-abbrev pub value_of : Place → Designated → Judged Exp
-value_of p (a_value x) = Fine x
-value_of p (a_slot ty n) = Fine (t.slot ty n)
-value_of p (a_cell ty at) = Fine (t.load ty at)
-value_of p (an_element ty at n i) = Fine (t.load ty (element_at Inside ty at n i))
-value_of p (an_array ty at n) = Fine (t.address (pointer_to ty) at)
-value_of p (no_value x) = breaks WrongOperands p
+abbrev pub value_of : Designated → Exp
+value_of (a_value x) = x
+value_of (a_slot ty n) = t.slot ty n
+value_of (a_cell ty at) = t.load ty at
+value_of (an_element ty at n i) = t.load ty (element_at Inside ty at n i)
+value_of (an_array ty at n) = t.address (pointer_to ty) at
 
 -- where a value can be stored
 pub data Target : Type 0 where
@@ -126,7 +98,6 @@ target_of p (a_cell ty at) = Fine (cell ty at)
 target_of p (an_element ty at n i) = Fine (cell ty (element_at Inside ty at n i))
 target_of p (a_value x) = breaks NotAPlace p
 target_of p (an_array ty at n) = breaks NotAPlace p
-target_of p (no_value x) = breaks WrongOperands p
 
 -- Under `&` an element may be the one behind the last. A variable in a slot never stands there, since its address is not taken.
 abbrev pub address_of : Place → Designated → Judged Exp
@@ -135,7 +106,6 @@ address_of p (an_element ty at n i) = Fine (element_at ToEnd ty at n i)
 address_of p (a_slot ty n) = breaks NotAPlace p
 address_of p (a_value x) = breaks NotAPlace p
 address_of p (an_array ty at n) = breaks NotAPlace p
-address_of p (no_value x) = breaks WrongOperands p
 
 abbrev pub target_type : Target → ValueType
 target_type (slot ty n) = ty
@@ -293,9 +263,12 @@ an_element_at ty at n i = Fine (an_element ty at n i)
 abbrev pub element_of : Place → ValueType → Storage → ℕ → Exp → Judged Designated
 element_of p ty at n i = integer_operand p i >>= an_element_at ty at n
 
-abbrev pub index_value : Place → c.Exp → Designated → Exp → Judged Designated
-index_value p a (an_array ty at n) i = element_of p ty at n i
-index_value p a base i = value_of (anchor a) base >>= indexed_pointer p i
+abbrev pub index_value : Place → Designated → Exp → Judged Designated
+index_value p (an_array ty at n) i = element_of p ty at n i
+index_value p (a_value x) i = indexed_pointer p i x
+index_value p (a_slot ty k) i = indexed_pointer p i (value_of (a_slot ty k))
+index_value p (a_cell ty at) i = indexed_pointer p i (value_of (a_cell ty at))
+index_value p (an_element ty at n k) i = indexed_pointer p i (value_of (an_element ty at n k))
 
 abbrev pub cast_value : Place → ValueType → Exp → Judged Designated
 cast_value p to x = if is_integer to && is_integer (type_of x) then Fine (a_value (converted to x)) else breaks WrongOperands p
@@ -323,21 +296,25 @@ abbrev pub wanted : Option Meant → List ValueType
 wanted None = []
 wanted (Some meant) = taken_by meant
 
--- the type of calls that give no value
-abbrev pub is_void : ValueType → Bool
-is_void (v.Base Void) = true
-is_void t = false
+abbrev pub is_function_without_value : Meant → Bool
+is_function_without_value (variable v) = false
+is_function_without_value (function f) = is_void f.signature.result
 
-abbrev pub call_value : ValueType → Exp → Designated
-call_value ty x = if is_void ty then no_value x else a_value x
+-- a call of it gives nothing
+abbrev pub gives_nothing : Option Meant → Bool
+gives_nothing None = false
+gives_nothing (Some meant) = is_function_without_value meant
 
-abbrev pub call_of : Function → Exps → Designated
+abbrev pub built_in_call : Callee → Exps → Exp
+built_in_call PutChar (t.an_exp x xs) = t.put_byte x
+built_in_call PutInt (t.an_exp x xs) = t.put_number x
+built_in_call callee xs = t.get_byte
+
+abbrev pub call_of : Function → Exps → Exp
 call_of f xs = call_by f.signature.result f.callee xs where
-  call_by : ValueType → Callee → Exps → Designated
-  call_by result PutChar (t.an_exp x xs) = a_value (t.put_byte x)
-  call_by result PutInt (t.an_exp x xs) = no_value (t.put_number x)
-  call_by result (Body n) xs = call_value result (t.call result n xs)
-  call_by result callee xs = a_value t.get_byte
+  call_by : ValueType → Callee → Exps → Exp
+  call_by result (Body n) xs = t.call result n xs
+  call_by result callee xs = built_in_call callee xs
 
 abbrev pub last_of : Exp → Exps → Exp
 last_of x t.no_exp = x
@@ -351,30 +328,22 @@ abbrev pub comma_of : Place → Exps → Judged Exp
 comma_of p t.no_exp = breaks WrongOperands p
 comma_of p (t.an_exp x xs) = Fine (t.comma (before_last x xs) (last_of x xs))
 
+abbrev pub value_in : Designated → Judged Exp
+value_in d = Fine (value_of d)
+
 -- its value
-abbrev pub valued : c.Exp → Judged Designated → Judged Exp
-valued e j = j >>= value_of (anchor e)
+abbrev pub valued : Judged Designated → Judged Exp
+valued j = j >>= value_in
 
 -- where it can be stored
 abbrev pub placed : c.Exp → Judged Designated → Judged Target
 placed e j = j >>= target_of (anchor e)
 
-abbrev pub has_value : Designated → Bool
-has_value (no_value x) = false
-has_value d = true
-
-abbrev pub based_on : c.Exp → Designated → Judged Designated
-based_on e d = if has_value d then Fine d else breaks WrongOperands (anchor e)
-
--- what stands before `[`: an array is not used as a pointer there
-abbrev pub based : c.Exp → Judged Designated → Judged Designated
-based e j = j >>= based_on e
-
 abbrev pub tested_of : c.Exp → Judged Exp → Judged Exp
 tested_of e j = j >>= tested e
 
 abbrev pub condition : c.Exp → Judged Designated → Judged Exp
-condition e j = tested_of e (valued e j)
+condition e j = tested_of e (valued j)
 
 -- an argument's value, for the first of these parameters, where there is one
 abbrev pub given_to : List ValueType → c.Exp → Judged Exp → Judged Exp
@@ -383,7 +352,7 @@ given_to (ty ∷ more) e j = j >>= stored_as ty e
 
 -- an argument, for the first of these parameters
 abbrev pub passed : List ValueType → c.Exp → Judged Designated → Judged Exp
-passed wanted e j = given_to wanted e (valued e j)
+passed wanted e j = given_to wanted e (valued j)
 
 abbrev pub rest_of : List ValueType → List ValueType
 rest_of [] = []
@@ -415,8 +384,8 @@ abbrev pub not_of : c.Exp → Judged Designated → Judged Designated
 not_of a j = condition a j >>= negated
 
 -- what an operator gives that works on a value
-abbrev pub of_value : Place → UnaryOp → c.Exp → Judged Designated → Judged Designated
-of_value p op a j = valued a j >>= unary_value p op
+abbrev pub of_value : Place → UnaryOp → Judged Designated → Judged Designated
+of_value p op j = valued j >>= unary_value p op
 
 -- what an operator before its operand gives
 abbrev pub unary_of : Place → UnaryOp → c.Exp → Judged Designated → Judged Designated
@@ -424,9 +393,9 @@ unary_of p u.Increment a j = prefix_of p b.Add a j
 unary_of p u.Decrement a j = prefix_of p b.Sub a j
 unary_of p u.AddressOf a j = value_as (j >>= address_of (anchor a))
 unary_of p u.Not a j = not_of a j
-unary_of p op a j = of_value p op a j
+unary_of p op a j = of_value p op j
 
-abbrev pub called_with : Function → Exps → Judged Designated
+abbrev pub called_with : Function → Exps → Judged Exp
 called_with f xs = Fine (call_of f xs)
 
 abbrev pub listed : Exp → Exps → Judged Exps
@@ -440,10 +409,6 @@ and_then (t.an_exp x xs) y = t.an_exp x (and_then xs y)
 abbrev pub appended : Exps → Exp → Judged Exps
 appended xs y = Fine (and_then xs y)
 
-abbrev pub effect_value : Place → Designated → Judged Exp
-effect_value p (no_value x) = Fine x
-effect_value p d = value_of p d
-
--- for what it does: a `void` call may stand there
-abbrev pub effect_of : c.Exp → Judged Designated → Judged Exp
-effect_of e j = j >>= effect_value (anchor e)
+-- A call that gives nothing breaks a rule where a value is wanted, whatever its arguments break.
+abbrev pub called_value : Place → Option Meant → Judged Exp → Judged Designated
+called_value p meant j = if gives_nothing meant then misplaced WrongOperands p j else value_as j

@@ -1,7 +1,7 @@
 -- What is made of parts, all of which are judged, also where one breaks a rule.
 use Rattle.std.specs.Prelude.{List, [], ◌∷◌, ◌++◌, Bool, if◌then◌else◌}
 use Rattle.ib_meaning.specs.declared.place.Place.{Place}
-use Rattle.c_types_operators.specs.declared.rule.Rule.{Rule}
+use Rattle.c_typed.specs.declared.rule.Rule.{Rule}
 use Rattle.c_types_operators.specs.declared.rule.Breach.{Breach}
 use Rattle.c_types_operators.specs.Rules.{Judged, Fine, Broken, breaches}
 

@@ -1,25 +1,9 @@
--- The rules of typing, by their numbers, and what judging a part of a tree gives.
-use Rattle.std.specs.Prelude.{ℕ, nat_lt, ◌==◌, ◌&&◌, ◌||◌, Bool, List, [], ◌∷◌, ◌++◌, Option, Some, None, if◌then◌else◌}
+-- What judging a part of a tree gives: what it means, or the rules of typing that it breaks.
+use Rattle.std.specs.Prelude.{nat_lt, ◌==◌, ◌&&◌, ◌||◌, Bool, List, [], ◌∷◌, ◌++◌, Option, Some, None, if◌then◌else◌}
 use Rattle.ib_meaning.specs.declared.place.Place.{Place}
-use Rattle.c_types_operators.specs.declared.rule.Rule.{Rule}
-use Rattle.c_types_operators.specs.declared.rule.Rule.TheVariants.{UnknownName, Redeclared, NoMain, WrongSignature, BadType, NotAPlace, NotACondition, WrongOperands, NotAssignable, NotAFunction, ArgumentCount, OutsideALoop, ReturnValue, WrongInitialiser}
+use Rattle.c_typed.specs.declared.rule.Rule.{Rule}
+use Rattle.c_typed.specs.Rules.{number_of}
 use Rattle.c_types_operators.specs.declared.rule.Breach.{Breach}
-
-abbrev pub number_of : Rule → ℕ
-number_of UnknownName = 1
-number_of Redeclared = 2
-number_of NoMain = 3
-number_of WrongSignature = 4
-number_of BadType = 5
-number_of NotAPlace = 6
-number_of NotACondition = 7
-number_of WrongOperands = 8
-number_of NotAssignable = 9
-number_of NotAFunction = 10
-number_of ArgumentCount = 11
-number_of OutsideALoop = 12
-number_of ReturnValue = 13
-number_of WrongInitialiser = 14
 
 -- what a part of a tree means, or the rules that it breaks
 pub data Judged (A : Type 0) : Type 0 where

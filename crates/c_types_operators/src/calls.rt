@@ -4,20 +4,18 @@ ghost use Rattle.std.specs.Prelude.{◌≡◌, ◌++◌, ◌∷◌, [], IfOk};
 ghost use Rattle.std.specs.Option.{option_map};
 ghost use Rattle.c_ast.specs.TreeViews as source;
 ghost use Rattle.c_typed.specs.Tree.{call};
-ghost use Rattle.c_typed.specs.Views.{expr_of};
+ghost use Rattle.c_typed.specs.Views.{expr_of, boxed_of};
 ghost use Rattle.c_types_operators.specs.ScopeViews.{function_of, meant_of};
-ghost use Rattle.c_types_operators.specs.Operators.{wanted, given_to, rest_of, call_value, call_of, comma_of, and_then};
+ghost use Rattle.c_types_operators.specs.Operators.{wanted, given_to, rest_of, gives_nothing, built_in_call, call_of, comma_of, and_then};
 ghost use Rattle.c_types_operators.specs.Judging.{Judges, both_some};
 ghost use Rattle.c_types_operators.specs.Rules.{Fine};
-ghost use Rattle.c_types_operators.specs.Views.{designated_of, exprs_of};
+ghost use Rattle.c_types_operators.specs.Views.{exprs_of};
 
-use crate::designated::Designated;
 use crate::nodes;
 use crate::notes::Notes;
 use crate::operators::stored_as;
-use crate::rule::Rule;
 use crate::scope::{Callee, Function, Meant};
-use c_typed::{Expr, ValueType};
+use c_typed::{Expr, Rule, ValueType};
 use ib_base::Place;
 use std::alloc::{AllocError, Global};
 
@@ -45,47 +43,69 @@ pub fn wanted<'s>(meant: Option<Meant<'s>>) -> &'s [ValueType]
     }
 }
 
+/// Whether a call of it gives nothing.
+pub fn gives_nothing(meant: Option<Meant<'_>>) -> bool
+    ensures { result ≡ gives_nothing (option_map meant_of meant.entry) }
+{
+    match meant {
+        Some(Meant::Function(function)) => function.result.is_void(),
+        Some(Meant::Variable(_)) => false,
+        None => false,
+    }
+}
+
+/// A call of what is built in.
+fn built_in_call(
+    alloc: Global,
+    callee: Callee,
+    mut arguments: Vec<Expr>,
+) -> Result<Box<Expr>, AllocError>
+    ensures { IfOk result (λ made. expr_of made.value ≡ built_in_call callee (exprs_of arguments)) }
+{
+    arguments.truncate(1);
+    let Some(first) = arguments.pop() else {
+        return nodes::boxed(alloc, Expr::GetByte);
+    };
+    let value = nodes::boxed(alloc, first)?;
+    match callee {
+        Callee::PutChar => nodes::boxed(alloc, Expr::PutByte { value }),
+        Callee::PutInt => nodes::boxed(alloc, Expr::PutNumber { value }),
+        Callee::GetChar | Callee::Body(_) => nodes::boxed(alloc, Expr::GetByte),
+    }
+}
+
 /// The call of a body, which gives a value of this type.
 #[tactic(auto, using(crate::proofs::TypedRows::call_exprs))]
-fn body_call(gives: ValueType, number: u32, arguments: Vec<Expr>) -> Designated
-    ensures { designated_of result ≡ call_value gives (call gives number (exprs_of arguments)) }
+fn body_call(
+    alloc: Global,
+    gives: ValueType,
+    number: u32,
+    arguments: Vec<Expr>,
+) -> Result<Box<Expr>, AllocError>
+    ensures { IfOk result (λ made. expr_of made.value ≡ call gives number (exprs_of arguments)) }
 {
     let call = Expr::Call {
         ty: gives,
         function: number,
         arguments,
     };
-    if nodes::is_void(gives) {
-        return Designated::NoValue(call);
-    }
-    Designated::Value(call)
+    let made = nodes::boxed(alloc, call)?;
+    Ok(made)
 }
 
 /// A call, with the arguments that its function takes.
 pub fn call_of(
     alloc: Global,
     function: Function<'_>,
-    mut arguments: Vec<Expr>,
-) -> Result<Designated, AllocError>
-    ensures { IfOk result (λ made. designated_of made ≡ call_of (function_of function.entry) (exprs_of arguments)) }
+    arguments: Vec<Expr>,
+) -> Result<Box<Expr>, AllocError>
+    ensures { IfOk result (λ made. expr_of made.value ≡ call_of (function_of function.entry) (exprs_of arguments)) }
 {
-    if let Callee::Body(number) = function.callee {
-        return Ok(body_call(function.result, number, arguments));
-    }
-    arguments.truncate(1);
-    let Some(first) = arguments.pop() else {
-        return Ok(Designated::Value(Expr::GetByte));
-    };
     match function.callee {
-        Callee::PutChar => {
-            let value = Box::new(alloc, first)?;
-            Ok(Designated::Value(Expr::PutByte { value }))
-        }
-        Callee::PutInt => {
-            let value = Box::new(alloc, first)?;
-            Ok(Designated::NoValue(Expr::PutNumber { value }))
-        }
-        Callee::GetChar | Callee::Body(_) => Ok(Designated::Value(Expr::GetByte)),
+        Callee::Body(number) => body_call(alloc, function.result, number, arguments),
+        Callee::GetChar => built_in_call(alloc, Callee::GetChar, arguments),
+        Callee::PutChar => built_in_call(alloc, Callee::PutChar, arguments),
+        Callee::PutInt => built_in_call(alloc, Callee::PutInt, arguments),
     }
 }
 
@@ -96,15 +116,16 @@ pub fn comma(
     notes: &mut Notes<'_>,
     place: Place,
     mut parts: Vec<Expr>,
-) -> Result<Option<Expr>, AllocError>
-    ensures { IfOk result (λ answer. Judges expr_of notes.old [] (comma_of place (exprs_of parts)) answer notes.new) }
+) -> Result<Option<Box<Expr>>, AllocError>
+    ensures { IfOk result (λ answer. Judges boxed_of notes.old [] (comma_of place (exprs_of parts)) answer notes.new) }
 {
     let Some(last) = parts.pop() else {
         notes.breaks(Rule::WrongOperands, place);
         return Ok(None);
     };
-    let last = Box::new(alloc, last)?;
-    Ok(Some(Expr::Comma { parts, last }))
+    let last = nodes::boxed(alloc, last)?;
+    let value = nodes::boxed(alloc, Expr::Comma { parts, last })?;
+    Ok(Some(value))
 }
 
 /// An argument, for the first of these parameters, where there is one.
@@ -113,9 +134,9 @@ pub fn passed(
     notes: &mut Notes<'_>,
     wanted: &[ValueType],
     e: &c_ast::Expr,
-    x: Expr,
-) -> Result<Option<Expr>, AllocError>
-    ensures { IfOk result (λ answer. Judges expr_of notes.old [] (given_to wanted.now (source.expr_of e.now) (Fine (expr_of x))) answer notes.new) }
+    x: Box<Expr>,
+) -> Result<Option<Box<Expr>>, AllocError>
+    ensures { IfOk result (λ answer. Judges boxed_of notes.old [] (given_to wanted.now (source.expr_of e.now) (Fine (expr_of x.value))) answer notes.new) }
 {
     match wanted.split_first() {
         Some((ty, _)) => stored_as(alloc, notes, *ty, e, x),
@@ -135,9 +156,9 @@ pub fn rest_of(wanted: &[ValueType]) -> &[ValueType]
 
 /// A list with one more at its end.
 #[tactic(auto, using(crate::proofs::CallLemmas::and_then_snoc))]
-pub fn pushed(mut list: Vec<Expr>, x: Expr) -> Result<Vec<Expr>, AllocError>
-    ensures { IfOk result (λ longer. exprs_of longer ≡ and_then (exprs_of list) (expr_of x)) }
+pub fn pushed(mut list: Vec<Expr>, x: Box<Expr>) -> Result<Vec<Expr>, AllocError>
+    ensures { IfOk result (λ longer. exprs_of longer ≡ and_then (exprs_of list) (expr_of x.value)) }
 {
-    list.push(x)?;
+    list.push(Box::into_inner(x))?;
     Ok(list)
 }

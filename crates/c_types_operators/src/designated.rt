@@ -8,23 +8,21 @@ pub struct ArrayAt {
     pub length: u64,
 }
 
-/// What an expression is: a value, a variable or other place, an array, or a call that gives no
-/// value.
+/// What an expression is: a value, a variable or other place, or an array.
 #[derive(Drop)]
 pub enum Designated {
-    Value(Expr),
+    Value(Box<Expr>),
     Slot { ty: ValueType, slot: u32 },
     /// What lies at an address.
-    Cell { ty: ValueType, address: Expr },
+    Cell { ty: ValueType, address: Box<Expr> },
     /// An element of a declared array.
-    Element { array: ArrayAt, index: Expr },
+    Element { array: ArrayAt, index: Box<Expr> },
     Array(ArrayAt),
-    NoValue(Expr),
 }
 
 /// Where a value can be stored.
 #[derive(Drop)]
 pub enum Target {
     Slot { ty: ValueType, slot: u32 },
-    Cell { ty: ValueType, address: Expr },
+    Cell { ty: ValueType, address: Box<Expr> },
 }

@@ -1,17 +1,16 @@
 //! Typed nodes, made of their parts.
 
-ghost use Rattle.std.specs.Prelude.{◌≡◌, IfOk, pos};
+ghost use Rattle.std.specs.Prelude.{◌≡◌, IfOk};
 ghost use Rattle.c_typed.specs.Tree.{load, unary, not, both, either, conditional, binary};
 ghost use Rattle.c_typed.specs.ValueTypes.{size_of, pointee};
 ghost use Rattle.c_typed.specs.declared.operation.Operation.TheVariants.{Advance};
 ghost use Rattle.c_typed.specs.Views.{expr_of};
 ghost use Rattle.c_ast.specs.TreeViews as source;
-ghost use Rattle.c_types_operators.specs.Operators.{anchor, is_null, is_void, type_of, operand, plain_operand, one, converted, element_at, signed, applied, branch, target_type, assigned, updated, stepped};
+ghost use Rattle.c_types_operators.specs.Operators.{anchor, is_null, operand, plain_operand, one, converted, element_at, signed, applied, branch, target_type, assigned, updated, stepped};
 ghost use Rattle.c_types_operators.specs.Views.{target_of};
 
 use crate::designated::{ArrayAt, Target};
-use c_ast::Base;
-use c_typed::{Choice, Expr, INT, Operand, Operation, Reach, Sign, ValueType};
+use c_typed::{Choice, Expr, INT, Operand, Operation, Reach, Sign, ValueType, type_of};
 use ib_base::Place;
 use std::alloc::{AllocError, Global};
 
@@ -61,47 +60,6 @@ pub fn is_null(e: &c_ast::Expr) -> bool
     }
 }
 
-pub fn type_of(x: &Expr) -> ValueType
-    ensures { result ≡ type_of (expr_of x.now) }
-{
-    match x {
-        Expr::Constant { ty, .. } => *ty,
-        Expr::Text { .. } => ValueType::Pointer {
-            to: Base::Char,
-            stars: 1,
-        },
-        Expr::Address { ty, .. } => *ty,
-        Expr::Element { ty, .. } => *ty,
-        Expr::Slot { ty, .. } => *ty,
-        Expr::Load { ty, .. } => *ty,
-        Expr::Convert { to, .. } => *to,
-        Expr::Unary { rank, .. } => rank.value_type(),
-        Expr::Not { .. } => INT,
-        Expr::Binary { ty, .. } => *ty,
-        Expr::And { .. } => INT,
-        Expr::Or { .. } => INT,
-        Expr::Conditional { ty, .. } => *ty,
-        Expr::SetSlot { ty, .. } => *ty,
-        Expr::Store { ty, .. } => *ty,
-        Expr::UpdateSlot { ty, .. } => *ty,
-        Expr::Update { ty, .. } => *ty,
-        Expr::StepSlot { ty, .. } => *ty,
-        Expr::Step { ty, .. } => *ty,
-        Expr::Call { ty, .. } => *ty,
-        Expr::GetByte => INT,
-        Expr::PutByte { .. } => INT,
-        Expr::PutNumber { .. } => ValueType::Base(Base::Void),
-        Expr::Comma { last, .. } => type_of(last),
-    }
-}
-
-/// Whether it is the type of calls that give no value.
-pub fn is_void(ty: ValueType) -> bool
-    ensures { result ≡ is_void ty }
-{
-    matches!(ty, ValueType::Base(Base::Void))
-}
-
 pub fn operand(e: &c_ast::Expr, x: &Expr) -> Operand
     ensures { result ≡ operand (source.expr_of e.now) (expr_of x.now) }
 {
@@ -118,130 +76,141 @@ pub fn plain_operand(ty: ValueType) -> Operand
     Operand { ty, is_null: false }
 }
 
+pub fn boxed(alloc: Global, x: Expr) -> Result<Box<Expr>, AllocError>
+    ensures { IfOk result (λ made. made.value ≡ x) }
+{
+    let made = Box::new(alloc, x)?;
+    Ok(made)
+}
+
 /// A conversion is a node of its own, where the type changes.
-pub fn converted(alloc: Global, to: ValueType, x: Expr) -> Result<Expr, AllocError>
-    ensures { IfOk result (λ made. expr_of made ≡ converted to (expr_of x)) }
+pub fn converted(alloc: Global, to: ValueType, x: Box<Expr>) -> Result<Box<Expr>, AllocError>
+    ensures { IfOk result (λ made. expr_of made.value ≡ converted to (expr_of x.value)) }
 {
     if type_of(&x).is_same(to) {
         return Ok(x);
     }
-    let operand = Box::new(alloc, x)?;
-    Ok(Expr::Convert { to, operand })
+    boxed(alloc, Expr::Convert { to, operand: x })
 }
 
-pub fn load(alloc: Global, ty: ValueType, address: Expr) -> Result<Expr, AllocError>
-    ensures { IfOk result (λ made. expr_of made ≡ load ty (expr_of address)) }
+pub fn load(alloc: Global, ty: ValueType, address: Box<Expr>) -> Result<Box<Expr>, AllocError>
+    ensures { IfOk result (λ made. expr_of made.value ≡ load ty (expr_of address.value)) }
 {
-    let address = Box::new(alloc, address)?;
-    Ok(Expr::Load { ty, address })
+    boxed(alloc, Expr::Load { ty, address })
 }
 
-pub fn element(alloc: Global, reach: Reach, array: ArrayAt, index: Expr) -> Result<Expr, AllocError>
-    ensures { IfOk result (λ made. expr_of made ≡ element_at reach array.element array.storage array.length (expr_of index)) }
+pub fn element(
+    alloc: Global,
+    reach: Reach,
+    array: ArrayAt,
+    index: Box<Expr>,
+) -> Result<Box<Expr>, AllocError>
+    ensures { IfOk result (λ made. expr_of made.value ≡ element_at reach array.element array.storage array.length (expr_of index.value)) }
 {
     let ty = array.element.pointer_to()?;
-    let index = Box::new(alloc, index)?;
-    Ok(Expr::Element {
+    let element = Expr::Element {
         ty,
         array: array.storage,
         length: array.length,
         size: array.element.size(),
         reach,
         index,
-    })
+    };
+    boxed(alloc, element)
 }
 
-pub fn not(alloc: Global, x: Expr) -> Result<Expr, AllocError>
-    ensures { IfOk result (λ made. expr_of made ≡ not (expr_of x)) }
+pub fn not(alloc: Global, x: Box<Expr>) -> Result<Box<Expr>, AllocError>
+    ensures { IfOk result (λ made. expr_of made.value ≡ not (expr_of x.value)) }
 {
-    let operand = Box::new(alloc, x)?;
-    Ok(Expr::Not { operand })
+    boxed(alloc, Expr::Not { operand: x })
 }
 
-pub fn both(alloc: Global, x: Expr, y: Expr) -> Result<Expr, AllocError>
-    ensures { IfOk result (λ made. expr_of made ≡ both (expr_of x) (expr_of y)) }
+pub fn both(alloc: Global, left: Box<Expr>, right: Box<Expr>) -> Result<Box<Expr>, AllocError>
+    ensures { IfOk result (λ made. expr_of made.value ≡ both (expr_of left.value) (expr_of right.value)) }
 {
-    let left = Box::new(alloc, x)?;
-    let right = Box::new(alloc, y)?;
-    Ok(Expr::And { left, right })
+    boxed(alloc, Expr::And { left, right })
 }
 
-pub fn either(alloc: Global, x: Expr, y: Expr) -> Result<Expr, AllocError>
-    ensures { IfOk result (λ made. expr_of made ≡ either (expr_of x) (expr_of y)) }
+pub fn either(alloc: Global, left: Box<Expr>, right: Box<Expr>) -> Result<Box<Expr>, AllocError>
+    ensures { IfOk result (λ made. expr_of made.value ≡ either (expr_of left.value) (expr_of right.value)) }
 {
-    let left = Box::new(alloc, x)?;
-    let right = Box::new(alloc, y)?;
-    Ok(Expr::Or { left, right })
+    boxed(alloc, Expr::Or { left, right })
 }
 
-pub fn signed(alloc: Global, op: Sign, x: Expr) -> Result<Expr, AllocError>
-    ensures { IfOk result (λ made. expr_of made ≡ signed op (expr_of x)) }
+pub fn signed(alloc: Global, op: Sign, x: Box<Expr>) -> Result<Box<Expr>, AllocError>
+    ensures { IfOk result (λ made. expr_of made.value ≡ signed op (expr_of x.value)) }
 {
     let rank = type_of(&x).promoted();
-    let x = converted(alloc, rank.value_type(), x)?;
-    let operand = Box::new(alloc, x)?;
-    Ok(Expr::Unary { op, rank, operand })
+    let operand = converted(alloc, rank.value_type(), x)?;
+    boxed(alloc, Expr::Unary { op, rank, operand })
 }
 
 /// The operation that was chosen, with its operands converted.
-pub fn applied(alloc: Global, choice: Choice, x: Expr, y: Expr) -> Result<Expr, AllocError>
-    ensures { IfOk result (λ made. expr_of made ≡ applied choice (expr_of x) (expr_of y)) }
+pub fn applied(
+    alloc: Global,
+    choice: Choice,
+    x: Box<Expr>,
+    y: Box<Expr>,
+) -> Result<Box<Expr>, AllocError>
+    ensures { IfOk result (λ made. expr_of made.value ≡ applied choice (expr_of x.value) (expr_of y.value)) }
 {
-    let x = converted(alloc, choice.left, x)?;
-    let y = converted(alloc, choice.right, y)?;
-    let left = Box::new(alloc, x)?;
-    let right = Box::new(alloc, y)?;
-    Ok(Expr::Binary {
+    let left = converted(alloc, choice.left, x)?;
+    let right = converted(alloc, choice.right, y)?;
+    let binary = Expr::Binary {
         ty: choice.result,
         op: choice.op,
         left,
         right,
-    })
+    };
+    boxed(alloc, binary)
 }
 
 /// 1, which `++` and `--` add and subtract.
-pub fn one() -> Expr
-    ensures { expr_of result ≡ one }
+pub fn one(alloc: Global) -> Result<Box<Expr>, AllocError>
+    ensures { IfOk result (λ made. expr_of made.value ≡ one) }
 {
-    Expr::Constant { ty: INT, value: 1 }
+    boxed(alloc, Expr::Constant { ty: INT, value: 1 })
 }
 
 /// A pointer, so many elements further on.
-pub fn advanced(alloc: Global, pointer: ValueType, x: Expr, index: Expr) -> Result<Expr, AllocError>
-    ensures { IfOk result (λ made. expr_of made ≡ binary pointer (Advance (size_of (pointee pointer))) (expr_of x) (expr_of index)) }
+pub fn advanced(
+    alloc: Global,
+    pointer: ValueType,
+    left: Box<Expr>,
+    right: Box<Expr>,
+) -> Result<Box<Expr>, AllocError>
+    ensures { IfOk result (λ made. expr_of made.value ≡ binary pointer (Advance (size_of (pointee pointer))) (expr_of left.value) (expr_of right.value)) }
 {
-    let left = Box::new(alloc, x)?;
-    let right = Box::new(alloc, index)?;
-    Ok(Expr::Binary {
+    let op = Operation::Advance {
+        size: pointer.pointee().size(),
+    };
+    let binary = Expr::Binary {
         ty: pointer,
-        op: Operation::Advance {
-            size: pointer.pointee().size(),
-        },
+        op,
         left,
         right,
-    })
+    };
+    boxed(alloc, binary)
 }
 
 pub fn branch(
     alloc: Global,
     ty: ValueType,
-    test: Expr,
-    x: Expr,
-    y: Expr,
-) -> Result<Expr, AllocError>
-    ensures { IfOk result (λ made. expr_of made ≡ branch ty (expr_of test) (expr_of x) (expr_of y)) }
+    test: Box<Expr>,
+    x: Box<Expr>,
+    y: Box<Expr>,
+) -> Result<Box<Expr>, AllocError>
+    ensures { IfOk result (λ made. expr_of made.value ≡ branch ty (expr_of test.value) (expr_of x.value) (expr_of y.value)) }
 {
-    let x = converted(alloc, ty, x)?;
-    let y = converted(alloc, ty, y)?;
-    let test = Box::new(alloc, test)?;
-    let then = Box::new(alloc, x)?;
-    let other = Box::new(alloc, y)?;
-    Ok(Expr::Conditional {
+    let then = converted(alloc, ty, x)?;
+    let other = converted(alloc, ty, y)?;
+    let conditional = Expr::Conditional {
         ty,
         test,
         then,
         other,
-    })
+    };
+    boxed(alloc, conditional)
 }
 
 pub fn target_type(target: &Target) -> ValueType
@@ -253,68 +222,74 @@ pub fn target_type(target: &Target) -> ValueType
     }
 }
 
-pub fn assigned(alloc: Global, target: Target, x: Expr) -> Result<Expr, AllocError>
-    ensures { IfOk result (λ made. expr_of made ≡ assigned (target_of target) (expr_of x)) }
+pub fn assigned(alloc: Global, target: Target, value: Box<Expr>) -> Result<Box<Expr>, AllocError>
+    ensures { IfOk result (λ made. expr_of made.value ≡ assigned (target_of target) (expr_of value.value)) }
 {
-    let value = Box::new(alloc, x)?;
     match target {
-        Target::Slot { ty, slot } => Ok(Expr::SetSlot { ty, slot, value }),
-        Target::Cell { ty, address } => {
-            let address = Box::new(alloc, address)?;
-            Ok(Expr::Store { ty, address, value })
-        }
+        Target::Slot { ty, slot } => boxed(alloc, Expr::SetSlot { ty, slot, value }),
+        Target::Cell { ty, address } => boxed(alloc, Expr::Store { ty, address, value }),
     }
 }
 
 /// A compound assignment: the operation that was chosen, on what stands there.
-pub fn updated(alloc: Global, target: Target, choice: Choice, x: Expr) -> Result<Expr, AllocError>
-    ensures { IfOk result (λ made. expr_of made ≡ updated (target_of target) choice (expr_of x)) }
+pub fn updated(
+    alloc: Global,
+    target: Target,
+    choice: Choice,
+    value: Box<Expr>,
+) -> Result<Box<Expr>, AllocError>
+    ensures { IfOk result (λ made. expr_of made.value ≡ updated (target_of target) choice (expr_of value.value)) }
 {
     let within = choice.left;
     let op = choice.op;
-    let value = Box::new(alloc, x)?;
     match target {
-        Target::Slot { ty, slot } => Ok(Expr::UpdateSlot {
-            ty,
-            slot,
-            within,
-            op,
-            value,
-        }),
+        Target::Slot { ty, slot } => {
+            let update = Expr::UpdateSlot {
+                ty,
+                slot,
+                within,
+                op,
+                value,
+            };
+            boxed(alloc, update)
+        }
         Target::Cell { ty, address } => {
-            let address = Box::new(alloc, address)?;
-            Ok(Expr::Update {
+            let update = Expr::Update {
                 ty,
                 address,
                 within,
                 op,
                 value,
-            })
+            };
+            boxed(alloc, update)
         }
     }
 }
 
 /// The same with 1, where the old value is the result.
-pub fn stepped(alloc: Global, target: Target, choice: Choice) -> Result<Expr, AllocError>
-    ensures { IfOk result (λ made. expr_of made ≡ stepped (target_of target) choice) }
+pub fn stepped(alloc: Global, target: Target, choice: Choice) -> Result<Box<Expr>, AllocError>
+    ensures { IfOk result (λ made. expr_of made.value ≡ stepped (target_of target) choice) }
 {
     let within = choice.left;
     let op = choice.op;
     match target {
-        Target::Slot { ty, slot } => Ok(Expr::StepSlot {
-            ty,
-            slot,
-            within,
-            op,
-        }),
+        Target::Slot { ty, slot } => {
+            let step = Expr::StepSlot {
+                ty,
+                slot,
+                within,
+                op,
+            };
+            boxed(alloc, step)
+        }
         Target::Cell { ty, address } => {
-            let address = Box::new(alloc, address)?;
-            Ok(Expr::Step {
+            let step = Expr::Step {
                 ty,
                 address,
                 within,
                 op,
-            })
+            };
+            boxed(alloc, step)
         }
     }
 }

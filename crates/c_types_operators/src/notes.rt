@@ -1,8 +1,9 @@
 ghost use Rattle.std.specs.Prelude.{◌≡◌, length, map, [], ◌∷◌, None, IfOk, OnOk};
-ghost use Rattle.c_types_operators.specs.Rules.{number_of, is_before, same_place, goes_before, earlier};
+ghost use Rattle.c_types_operators.specs.Rules.{is_before, same_place, goes_before, earlier};
 ghost use Rattle.c_types_operators.specs.Judging.{Noted, noted, with_place};
 
-use crate::rule::{Breach, Rule};
+use crate::rule::Breach;
+use c_typed::Rule;
 use ib_base::Place;
 use std::alloc::{AllocError, Global};
 use std::marker::Model;
@@ -23,30 +24,6 @@ impl<'a> Model for Notes<'a> {
     ghost Value = { Noted };
 
     ghost view = { λ notes. record { texts = map (λ text. text.now) notes.texts.items; places = notes.places.items; first = notes.first } };
-}
-
-impl Rule {
-    /// The number that an answer gives.
-    pub fn number(self) -> u8
-        ensures { result ≡ number_of self }
-    {
-        match self {
-            Rule::UnknownName => 1,
-            Rule::Redeclared => 2,
-            Rule::NoMain => 3,
-            Rule::WrongSignature => 4,
-            Rule::BadType => 5,
-            Rule::NotAPlace => 6,
-            Rule::NotACondition => 7,
-            Rule::WrongOperands => 8,
-            Rule::NotAssignable => 9,
-            Rule::NotAFunction => 10,
-            Rule::ArgumentCount => 11,
-            Rule::OutsideALoop => 12,
-            Rule::ReturnValue => 13,
-            Rule::WrongInitialiser => 14,
-        }
-    }
 }
 
 fn is_before(p: Place, q: Place) -> bool

@@ -3,7 +3,7 @@
 ghost use Rattle.std.specs.Prelude.{◌≡◌, [], IfOk, Some, None};
 ghost use Rattle.c_typed.specs.Views.{expr_of};
 ghost use Rattle.c_ast.specs.TreeViews as source;
-ghost use Rattle.c_types_operators.specs.Operators.{is_logical, logical_value, binary_value, conditional_value, within, restored, assignment, element_of, indexed_pointer, index_value, has_value, based};
+ghost use Rattle.c_types_operators.specs.Operators.{is_logical, logical_value, binary_value, conditional_value, within, restored, assignment, element_of, indexed_pointer, index_value};
 ghost use Rattle.c_types_operators.specs.Rules.{Fine};
 ghost use Rattle.c_types_operators.specs.Judging.{Judges};
 ghost use Rattle.c_types_operators.specs.Views.{designated_of, target_of};
@@ -11,10 +11,9 @@ ghost use Rattle.c_types_operators.specs.Views.{designated_of, target_of};
 use crate::designated::{ArrayAt, Designated, Target};
 use crate::nodes;
 use crate::notes::Notes;
-use crate::operators::{Judged, Operand, integer_operand, stored_as, valued};
-use crate::rule::Rule;
+use crate::operators::{Judged, integer_operand, stored_as, value_of};
 use c_ast::{AssignOp, BinaryOp};
-use c_typed::{Choice, Expr, branches, chosen, fits};
+use c_typed::{Choice, Expr, Rule, branches, chosen, fits, type_of};
 use ib_base::Place;
 use std::alloc::{AllocError, Global};
 
@@ -26,7 +25,7 @@ pub fn binary_value(
     left: Judged<'_>,
     right: Judged<'_>,
 ) -> Result<Option<Designated>, AllocError>
-    ensures { IfOk result (λ answer. Judges designated_of notes.old [] (binary_value place op (source.expr_of left.entry.source.now) (source.expr_of right.entry.source.now) (expr_of left.entry.value) (expr_of right.entry.value)) answer notes.new) }
+    ensures { IfOk result (λ answer. Judges designated_of notes.old [] (binary_value place op (source.expr_of left.entry.source.now) (source.expr_of right.entry.source.now) (expr_of left.entry.value.value) (expr_of right.entry.value.value)) answer notes.new) }
 {
     let x = nodes::operand(left.source, &left.value);
     let y = nodes::operand(right.source, &right.value);
@@ -42,11 +41,11 @@ pub fn conditional_value(
     alloc: Global,
     notes: &mut Notes<'_>,
     place: Place,
-    test: Expr,
+    test: Box<Expr>,
     then: Judged<'_>,
     other: Judged<'_>,
 ) -> Result<Option<Designated>, AllocError>
-    ensures { IfOk result (λ answer. Judges designated_of notes.old [] (conditional_value place (source.expr_of then.entry.source.now) (source.expr_of other.entry.source.now) (expr_of test) (expr_of then.entry.value, expr_of other.entry.value)) answer notes.new) }
+    ensures { IfOk result (λ answer. Judges designated_of notes.old [] (conditional_value place (source.expr_of then.entry.source.now) (source.expr_of other.entry.source.now) (expr_of test.value) (expr_of then.entry.value.value, expr_of other.entry.value.value)) answer notes.new) }
 {
     let x = nodes::operand(then.source, &then.value);
     let y = nodes::operand(other.source, &other.value);
@@ -68,10 +67,10 @@ pub fn is_logical(op: BinaryOp) -> bool
 pub fn logical_value(
     alloc: Global,
     op: BinaryOp,
-    x: Expr,
-    y: Expr,
+    x: Box<Expr>,
+    y: Box<Expr>,
 ) -> Result<Designated, AllocError>
-    ensures { IfOk result (λ made. Fine (designated_of made) ≡ logical_value op (expr_of x) (expr_of y)) }
+    ensures { IfOk result (λ made. Fine (designated_of made) ≡ logical_value op (expr_of x.value) (expr_of y.value)) }
 {
     if let BinaryOp::And = op {
         return Ok(Designated::Value(nodes::both(alloc, x, y)?));
@@ -105,7 +104,7 @@ fn restored(
     choice: Choice,
     right: Judged<'_>,
 ) -> Result<Option<Designated>, AllocError>
-    ensures { IfOk result (λ answer. Judges designated_of notes.old [] (restored (source.expr_of right.entry.source.now) (target_of target) (expr_of right.entry.value) choice) answer notes.new) }
+    ensures { IfOk result (λ answer. Judges designated_of notes.old [] (restored (source.expr_of right.entry.source.now) (target_of target) (expr_of right.entry.value.value) choice) answer notes.new) }
 {
     let new = nodes::plain_operand(choice.result);
     if fits(nodes::target_type(&target), new) {
@@ -124,7 +123,7 @@ fn plain_assignment(
     target: Target,
     right: Judged<'_>,
 ) -> Result<Option<Designated>, AllocError>
-    ensures { IfOk result (λ answer. Judges designated_of notes.old [] (assignment place None (source.expr_of right.entry.source.now) (target_of target) (expr_of right.entry.value)) answer notes.new) }
+    ensures { IfOk result (λ answer. Judges designated_of notes.old [] (assignment place None (source.expr_of right.entry.source.now) (target_of target) (expr_of right.entry.value.value)) answer notes.new) }
 {
     let ty = nodes::target_type(&target);
     let Some(x) = stored_as(alloc, notes, ty, right.source, right.value)? else {
@@ -142,7 +141,7 @@ fn compound_assignment(
     target: Target,
     right: Judged<'_>,
 ) -> Result<Option<Designated>, AllocError>
-    ensures { IfOk result (λ answer. Judges designated_of notes.old [] (assignment place (Some op) (source.expr_of right.entry.source.now) (target_of target) (expr_of right.entry.value)) answer notes.new) }
+    ensures { IfOk result (λ answer. Judges designated_of notes.old [] (assignment place (Some op) (source.expr_of right.entry.source.now) (target_of target) (expr_of right.entry.value.value)) answer notes.new) }
 {
     let old = nodes::plain_operand(nodes::target_type(&target));
     let x = nodes::operand(right.source, &right.value);
@@ -161,7 +160,7 @@ pub fn assignment(
     target: Target,
     right: Judged<'_>,
 ) -> Result<Option<Designated>, AllocError>
-    ensures { IfOk result (λ answer. Judges designated_of notes.old [] (assignment place (within op) (source.expr_of right.entry.source.now) (target_of target) (expr_of right.entry.value)) answer notes.new) }
+    ensures { IfOk result (λ answer. Judges designated_of notes.old [] (assignment place (within op) (source.expr_of right.entry.source.now) (target_of target) (expr_of right.entry.value.value)) answer notes.new) }
 {
     match within(op) {
         Some(op) => compound_assignment(alloc, notes, place, op, target, right),
@@ -173,13 +172,13 @@ fn indexed_pointer(
     alloc: Global,
     notes: &mut Notes<'_>,
     place: Place,
-    x: Expr,
-    index: Expr,
+    x: Box<Expr>,
+    index: Box<Expr>,
 ) -> Result<Option<Designated>, AllocError>
-    ensures { IfOk result (λ answer. Judges designated_of notes.old [] (indexed_pointer place (expr_of index) (expr_of x)) answer notes.new) }
+    ensures { IfOk result (λ answer. Judges designated_of notes.old [] (indexed_pointer place (expr_of index.value) (expr_of x.value)) answer notes.new) }
 {
-    let pointer = nodes::type_of(&x);
-    if pointer.leads() && nodes::type_of(&index).is_integer() {
+    let pointer = type_of(&x);
+    if pointer.leads() && type_of(&index).is_integer() {
         let address = nodes::advanced(alloc, pointer, x, index)?;
         return Ok(Some(Designated::Cell {
             ty: pointer.pointee(),
@@ -194,9 +193,9 @@ fn array_element(
     notes: &mut Notes<'_>,
     place: Place,
     array: ArrayAt,
-    index: Expr,
+    index: Box<Expr>,
 ) -> Option<Designated>
-    ensures { Judges designated_of notes.old [] (element_of place array.element array.storage array.length (expr_of index)) result notes.new }
+    ensures { Judges designated_of notes.old [] (element_of place array.element array.storage array.length (expr_of index.value)) result notes.new }
 {
     let index = integer_operand(notes, place, index)?;
     Some(Designated::Element { array, index })
@@ -207,35 +206,14 @@ pub fn index_value(
     alloc: Global,
     notes: &mut Notes<'_>,
     place: Place,
-    base: Operand<'_>,
-    index: Expr,
+    base: Designated,
+    index: Box<Expr>,
 ) -> Result<Option<Designated>, AllocError>
-    ensures { IfOk result (λ answer. Judges designated_of notes.old [] (index_value place (source.expr_of base.entry.source.now) (designated_of base.entry.designated) (expr_of index)) answer notes.new) }
+    ensures { IfOk result (λ answer. Judges designated_of notes.old [] (index_value place (designated_of base) (expr_of index.value)) answer notes.new) }
 {
-    if let Designated::Array(array) = base.designated {
+    if let Designated::Array(array) = base {
         return Ok(array_element(notes, place, array, index));
     }
-    let Some(x) = valued(alloc, notes, base)? else {
-        return Ok(None);
-    };
-    let answer = indexed_pointer(alloc, notes, place, x, index)?;
-    Ok(answer)
-}
-
-/// What stands before `[`: an array is not used as a pointer there.
-pub fn based(notes: &mut Notes<'_>, base: Operand<'_>) -> Option<Designated>
-    ensures { Judges designated_of notes.old [] (based (source.expr_of base.entry.source.now) (Fine (designated_of base.entry.designated))) result notes.new }
-{
-    let Operand { source, designated } = base;
-    if has_value(&designated) {
-        return Some(designated);
-    }
-    notes.breaks(Rule::WrongOperands, nodes::anchor(source));
-    None
-}
-
-fn has_value(d: &Designated) -> bool
-    ensures { result ≡ has_value (designated_of d.now) }
-{
-    !matches!(d, Designated::NoValue(_))
+    let x = value_of(alloc, base)?;
+    indexed_pointer(alloc, notes, place, x, index)
 }

@@ -2,20 +2,18 @@
 
 ghost use Rattle.std.specs.Prelude.{◌≡◌, [], ◌∷◌, ◌||◌, IfOk};
 ghost use Rattle.c_typed.specs.ValueTypes.{is_integer, is_pointer};
-ghost use Rattle.c_typed.specs.Views.{expr_of};
+ghost use Rattle.c_typed.specs.Views.{expr_of, boxed_of};
 ghost use Rattle.c_ast.specs.TreeViews as source;
-ghost use Rattle.c_types_operators.specs.Operators.{value_of, target_of as place_of, address_of, tested, stored_as, integer_operand, used_variable, valued, effect_value};
-ghost use Rattle.c_types_operators.specs.Rules.{Fine};
+ghost use Rattle.c_types_operators.specs.Operators.{value_of, target_of as place_of, address_of, tested, stored_as, integer_operand, used_variable};
 ghost use Rattle.c_types_operators.specs.Judging.{Judges};
 ghost use Rattle.c_types_operators.specs.Views.{designated_of, target_of};
 
 use crate::designated::{ArrayAt, Designated, Target};
 use crate::nodes;
 use crate::notes::Notes;
-use crate::rule::Rule;
 use crate::scope::{Lives, Variable};
 use c_layout::Shape;
-use c_typed::{Expr, Reach, ValueType, fits};
+use c_typed::{Expr, Reach, Rule, ValueType, fits, type_of};
 use ib_base::Place;
 use std::alloc::{AllocError, Global};
 
@@ -38,11 +36,11 @@ impl<'a> Operand<'a> {
 #[derive(Drop)]
 pub struct Judged<'a> {
     pub source: &'a c_ast::Expr,
-    pub value: Expr,
+    pub value: Box<Expr>,
 }
 
 impl<'a> Judged<'a> {
-    pub fn new(source: &'a c_ast::Expr, value: Expr) -> Judged<'a>
+    pub fn new(source: &'a c_ast::Expr, value: Box<Expr>) -> Judged<'a>
         ensures { result ≡ record { source = source.entry; value = value } }
     {
         Judged { source, value }
@@ -51,46 +49,22 @@ impl<'a> Judged<'a> {
 
 /// The value of what is designated: what a place holds, and the address of an array's first
 /// element.
-#[tactic(auto, using(crate::proofs::JudgingLemmas::fine, crate::proofs::JudgingLemmas::broken))]
-pub fn value_of(
-    alloc: Global,
-    notes: &mut Notes<'_>,
-    place: Place,
-    d: Designated,
-) -> Result<Option<Expr>, AllocError>
-    ensures { IfOk result (λ answer. Judges expr_of notes.old [] (value_of place (designated_of d)) answer notes.new) }
+pub fn value_of(alloc: Global, d: Designated) -> Result<Box<Expr>, AllocError>
+    ensures { IfOk result (λ made. expr_of made.value ≡ value_of (designated_of d)) }
 {
     match d {
-        Designated::Value(x) => Ok(Some(x)),
-        Designated::Slot { ty, slot } => Ok(Some(Expr::Slot { ty, slot })),
-        Designated::Cell { ty, address } => Ok(Some(nodes::load(alloc, ty, address)?)),
+        Designated::Value(x) => Ok(x),
+        Designated::Slot { ty, slot } => nodes::boxed(alloc, Expr::Slot { ty, slot }),
+        Designated::Cell { ty, address } => nodes::load(alloc, ty, address),
         Designated::Element { array, index } => {
             let address = nodes::element(alloc, Reach::Inside, array, index)?;
-            Ok(Some(nodes::load(alloc, array.element, address)?))
+            nodes::load(alloc, array.element, address)
         }
-        Designated::Array(array) => Ok(Some(Expr::Address {
-            ty: array.element.pointer_to()?,
-            of: array.storage,
-        })),
-        Designated::NoValue(_) => {
-            notes.breaks(Rule::WrongOperands, place);
-            Ok(None)
+        Designated::Array(array) => {
+            let ty = array.element.pointer_to()?;
+            let of = array.storage;
+            nodes::boxed(alloc, Expr::Address { ty, of })
         }
-    }
-}
-
-/// What stands for what it does: a call may give no value there.
-pub fn effect_value(
-    alloc: Global,
-    notes: &mut Notes<'_>,
-    place: Place,
-    d: Designated,
-) -> Result<Option<Expr>, AllocError>
-    ensures { IfOk result (λ answer. Judges expr_of notes.old [] (effect_value place (designated_of d)) answer notes.new) }
-{
-    match d {
-        Designated::NoValue(x) => Ok(Some(x)),
-        d => value_of(alloc, notes, place, d),
     }
 }
 
@@ -118,10 +92,6 @@ pub fn place_of(
             notes.breaks(Rule::NotAPlace, place);
             Ok(None)
         }
-        Designated::NoValue(_) => {
-            notes.breaks(Rule::WrongOperands, place);
-            Ok(None)
-        }
     }
 }
 
@@ -132,8 +102,8 @@ pub fn address_of(
     notes: &mut Notes<'_>,
     place: Place,
     d: Designated,
-) -> Result<Option<Expr>, AllocError>
-    ensures { IfOk result (λ answer. Judges expr_of notes.old [] (address_of place (designated_of d)) answer notes.new) }
+) -> Result<Option<Box<Expr>>, AllocError>
+    ensures { IfOk result (λ answer. Judges boxed_of notes.old [] (address_of place (designated_of d)) answer notes.new) }
 {
     match d {
         Designated::Cell { address, .. } => Ok(Some(address)),
@@ -144,27 +114,21 @@ pub fn address_of(
             notes.breaks(Rule::NotAPlace, place);
             Ok(None)
         }
-        Designated::NoValue(_) => {
-            notes.breaks(Rule::WrongOperands, place);
-            Ok(None)
-        }
     }
 }
 
 /// What a variable is where it is used.
-pub fn used_variable(variable: Variable) -> Result<Designated, AllocError>
+pub fn used_variable(alloc: Global, variable: Variable) -> Result<Designated, AllocError>
     ensures { IfOk result (λ made. designated_of made ≡ used_variable variable.shape variable.lives) }
 {
     match variable.shape {
         Shape::Scalar(ty) => match variable.lives {
             Lives::InSlot(slot) => Ok(Designated::Slot { ty, slot }),
-            Lives::InMemory(of) => Ok(Designated::Cell {
-                ty,
-                address: Expr::Address {
-                    ty: ty.pointer_to()?,
-                    of,
-                },
-            }),
+            Lives::InMemory(of) => {
+                let pointer = ty.pointer_to()?;
+                let address = nodes::boxed(alloc, Expr::Address { ty: pointer, of })?;
+                Ok(Designated::Cell { ty, address })
+            }
         },
         Shape::Array { element, length } => match variable.lives {
             Lives::InSlot(slot) => Ok(Designated::Slot { ty: element, slot }),
@@ -185,10 +149,10 @@ fn is_condition(ty: ValueType) -> bool
 
 /// A condition, or an operand of `!`, `&&` or `||`.
 #[tactic(auto, using(crate::proofs::JudgingLemmas::fine, crate::proofs::JudgingLemmas::broken))]
-pub fn tested(notes: &mut Notes<'_>, e: &c_ast::Expr, x: Expr) -> Option<Expr>
-    ensures { Judges expr_of notes.old [] (tested (source.expr_of e.now) (expr_of x)) result notes.new }
+pub fn tested(notes: &mut Notes<'_>, e: &c_ast::Expr, x: Box<Expr>) -> Option<Box<Expr>>
+    ensures { Judges boxed_of notes.old [] (tested (source.expr_of e.now) (expr_of x.value)) result notes.new }
 {
-    if is_condition(nodes::type_of(&x)) {
+    if is_condition(type_of(&x)) {
         return Some(x);
     }
     notes.breaks(Rule::NotACondition, nodes::anchor(e));
@@ -202,9 +166,9 @@ pub fn stored_as(
     notes: &mut Notes<'_>,
     target: ValueType,
     e: &c_ast::Expr,
-    x: Expr,
-) -> Result<Option<Expr>, AllocError>
-    ensures { IfOk result (λ answer. Judges expr_of notes.old [] (stored_as target (source.expr_of e.now) (expr_of x)) answer notes.new) }
+    x: Box<Expr>,
+) -> Result<Option<Box<Expr>>, AllocError>
+    ensures { IfOk result (λ answer. Judges boxed_of notes.old [] (stored_as target (source.expr_of e.now) (expr_of x.value)) answer notes.new) }
 {
     if fits(target, nodes::operand(e, &x)) {
         return Ok(Some(nodes::converted(alloc, target, x)?));
@@ -214,29 +178,12 @@ pub fn stored_as(
 }
 
 #[tactic(auto, using(crate::proofs::JudgingLemmas::fine, crate::proofs::JudgingLemmas::broken))]
-pub fn integer_operand(notes: &mut Notes<'_>, place: Place, x: Expr) -> Option<Expr>
-    ensures { Judges expr_of notes.old [] (integer_operand place (expr_of x)) result notes.new }
+pub fn integer_operand(notes: &mut Notes<'_>, place: Place, x: Box<Expr>) -> Option<Box<Expr>>
+    ensures { Judges boxed_of notes.old [] (integer_operand place (expr_of x.value)) result notes.new }
 {
-    if nodes::type_of(&x).is_integer() {
+    if type_of(&x).is_integer() {
         return Some(x);
     }
     notes.breaks(Rule::WrongOperands, place);
     None
-}
-
-/// The value of an operand.
-#[tactic(auto, using(crate::proofs::JudgingLemmas::fine, crate::proofs::JudgingLemmas::broken))]
-pub fn valued(
-    alloc: Global,
-    notes: &mut Notes<'_>,
-    operand: Operand<'_>,
-) -> Result<Option<Expr>, AllocError>
-    ensures { IfOk result (λ answer. Judges expr_of notes.old [] (valued (source.expr_of operand.entry.source.now) (Fine (designated_of operand.entry.designated))) answer notes.new) }
-{
-    value_of(
-        alloc,
-        notes,
-        nodes::anchor(operand.source),
-        operand.designated,
-    )
 }

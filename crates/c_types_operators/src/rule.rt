@@ -1,23 +1,5 @@
+use c_typed::Rule;
 use ib_base::Place;
-
-/// The rules of typing.
-#[derive(Clone, Copy)]
-pub enum Rule {
-    UnknownName,
-    Redeclared,
-    NoMain,
-    WrongSignature,
-    BadType,
-    NotAPlace,
-    NotACondition,
-    WrongOperands,
-    NotAssignable,
-    NotAFunction,
-    ArgumentCount,
-    OutsideALoop,
-    ReturnValue,
-    WrongInitialiser,
-}
 
 /// A rule that is broken, at its anchor.
 #[derive(Clone, Copy)]

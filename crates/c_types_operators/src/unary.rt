@@ -12,17 +12,16 @@ ghost use Rattle.c_types_operators.specs.Views.{designated_of, target_of};
 use crate::designated::{Designated, Target};
 use crate::nodes;
 use crate::notes::Notes;
-use crate::operators::{Operand, address_of, integer_operand, place_of, tested, valued};
-use crate::rule::Rule;
+use crate::operators::{Operand, address_of, integer_operand, place_of, tested, value_of};
 use c_ast::{BinaryOp, PostfixOp, UnaryOp};
-use c_typed::{Choice, Expr, INT, Sign, ValueType, chosen};
+use c_typed::{Choice, Expr, INT, Rule, Sign, ValueType, chosen, type_of};
 use ib_base::Place;
 use std::alloc::{AllocError, Global};
 
-fn dereferenced(notes: &mut Notes<'_>, place: Place, x: Expr) -> Option<Designated>
-    ensures { Judges designated_of notes.old [] (unary_value place u.Dereference (expr_of x)) result notes.new }
+fn dereferenced(notes: &mut Notes<'_>, place: Place, x: Box<Expr>) -> Option<Designated>
+    ensures { Judges designated_of notes.old [] (unary_value place u.Dereference (expr_of x.value)) result notes.new }
 {
-    let ty = nodes::type_of(&x);
+    let ty = type_of(&x);
     if ty.leads() {
         return Some(Designated::Cell {
             ty: ty.pointee(),
@@ -37,14 +36,14 @@ fn promoted(
     alloc: Global,
     notes: &mut Notes<'_>,
     place: Place,
-    x: Expr,
+    x: Box<Expr>,
 ) -> Result<Option<Designated>, AllocError>
-    ensures { IfOk result (λ answer. Judges designated_of notes.old [] (unary_value place u.Plus (expr_of x)) answer notes.new) }
+    ensures { IfOk result (λ answer. Judges designated_of notes.old [] (unary_value place u.Plus (expr_of x.value)) answer notes.new) }
 {
     let Some(x) = integer_operand(notes, place, x) else {
         return Ok(None);
     };
-    let rank = nodes::type_of(&x).promoted();
+    let rank = type_of(&x).promoted();
     let value = nodes::converted(alloc, rank.value_type(), x)?;
     Ok(Some(Designated::Value(value)))
 }
@@ -54,9 +53,9 @@ fn signed(
     notes: &mut Notes<'_>,
     place: Place,
     op: Sign,
-    x: Expr,
+    x: Box<Expr>,
 ) -> Result<Option<Designated>, AllocError>
-    ensures { IfOk result (λ answer. Judges designated_of notes.old [] (signed_value place op (expr_of x)) answer notes.new) }
+    ensures { IfOk result (λ answer. Judges designated_of notes.old [] (signed_value place op (expr_of x.value)) answer notes.new) }
 {
     let Some(x) = integer_operand(notes, place, x) else {
         return Ok(None);
@@ -71,9 +70,9 @@ fn of_value(
     notes: &mut Notes<'_>,
     place: Place,
     op: UnaryOp,
-    x: Expr,
+    x: Box<Expr>,
 ) -> Result<Option<Designated>, AllocError>
-    ensures { IfOk result (λ answer. Judges designated_of notes.old [] (unary_value place op (expr_of x)) answer notes.new) }
+    ensures { IfOk result (λ answer. Judges designated_of notes.old [] (unary_value place op (expr_of x.value)) answer notes.new) }
 {
     match op {
         UnaryOp::Dereference => Ok(dereferenced(notes, place, x)),
@@ -107,7 +106,8 @@ fn prefix_value(
         notes.breaks(Rule::WrongOperands, place);
         return Ok(None);
     };
-    let one = nodes::converted(alloc, choice.right, nodes::one())?;
+    let step = nodes::one(alloc)?;
+    let one = nodes::converted(alloc, choice.right, step)?;
     let value = nodes::updated(alloc, target, choice, one)?;
     Ok(Some(Designated::Value(value)))
 }
@@ -208,11 +208,8 @@ fn negated(
 ) -> Result<Option<Designated>, AllocError>
     ensures { IfOk result (λ answer. Judges designated_of notes.old [] (not_of (source.expr_of operand.entry.source.now) (Fine (designated_of operand.entry.designated))) answer notes.new) }
 {
-    let source = operand.source;
-    let Some(x) = valued(alloc, notes, operand)? else {
-        return Ok(None);
-    };
-    let Some(test) = tested(notes, source, x) else {
+    let x = value_of(alloc, operand.designated)?;
+    let Some(test) = tested(notes, operand.source, x) else {
         return Ok(None);
     };
     let value = nodes::not(alloc, test)?;
@@ -225,11 +222,11 @@ pub fn cast_value(
     notes: &mut Notes<'_>,
     place: Place,
     to: ValueType,
-    x: Expr,
+    x: Box<Expr>,
 ) -> Result<Option<Designated>, AllocError>
-    ensures { IfOk result (λ answer. Judges designated_of notes.old [] (cast_value place to (expr_of x)) answer notes.new) }
+    ensures { IfOk result (λ answer. Judges designated_of notes.old [] (cast_value place to (expr_of x.value)) answer notes.new) }
 {
-    if to.is_integer() && nodes::type_of(&x).is_integer() {
+    if to.is_integer() && type_of(&x).is_integer() {
         let value = nodes::converted(alloc, to, x)?;
         return Ok(Some(Designated::Value(value)));
     }
@@ -242,13 +239,11 @@ fn on_value(
     notes: &mut Notes<'_>,
     place: Place,
     op: UnaryOp,
-    operand: Operand<'_>,
+    d: Designated,
 ) -> Result<Option<Designated>, AllocError>
-    ensures { IfOk result (λ answer. Judges designated_of notes.old [] (of_value place op (source.expr_of operand.entry.source.now) (Fine (designated_of operand.entry.designated))) answer notes.new) }
+    ensures { IfOk result (λ answer. Judges designated_of notes.old [] (of_value place op (Fine (designated_of d))) answer notes.new) }
 {
-    let Some(x) = valued(alloc, notes, operand)? else {
-        return Ok(None);
-    };
+    let x = value_of(alloc, d)?;
     let answer = of_value(alloc, notes, place, op, x)?;
     Ok(answer)
 }
@@ -268,9 +263,15 @@ pub fn unary(
         UnaryOp::Decrement => prefix(alloc, notes, place, BinaryOp::Sub, operand),
         UnaryOp::AddressOf => address(alloc, notes, operand),
         UnaryOp::Not => negated(alloc, notes, operand),
-        UnaryOp::Dereference => on_value(alloc, notes, place, UnaryOp::Dereference, operand),
-        UnaryOp::Plus => on_value(alloc, notes, place, UnaryOp::Plus, operand),
-        UnaryOp::Minus => on_value(alloc, notes, place, UnaryOp::Minus, operand),
-        UnaryOp::BitNot => on_value(alloc, notes, place, UnaryOp::BitNot, operand),
+        UnaryOp::Dereference => on_value(
+            alloc,
+            notes,
+            place,
+            UnaryOp::Dereference,
+            operand.designated,
+        ),
+        UnaryOp::Plus => on_value(alloc, notes, place, UnaryOp::Plus, operand.designated),
+        UnaryOp::Minus => on_value(alloc, notes, place, UnaryOp::Minus, operand.designated),
+        UnaryOp::BitNot => on_value(alloc, notes, place, UnaryOp::BitNot, operand.designated),
     }
 }

@@ -1,34 +1,53 @@
-use Rattle.std.proofs.Common.{rules, ◌≡◌, refl, sym, ap, ◌∙◌, subst, true, false, ◌++◌, IfOk}
+use Rattle.std.proofs.Common.{rules, ◌≡◌, refl, sym, ap, ◌∙◌, subst, true, false, [], ◌++◌, IfOk}
+use Rattle.std.specs.Prelude.{map, if◌then◌else◌}
+use Rattle.std.specs.Option.{option_map}
+use Rattle.c_typed.specs.declared.rule.Rule.TheVariants.{WrongOperands}
+use Rattle.c_types_operators.specs.ScopeViews.{meant_of}
 use Rattle.c_ast.specs.Trees as tree
 use Rattle.c_ast.specs.TreeViews as source
-use Rattle.c_typed.specs.Views.{list_exps}
+use Rattle.c_typed.specs.Tree as typed
+use Rattle.c_typed.specs.ValueTypes.{int, long}
+use Rattle.c_typed.specs.Views.{expr_of, list_exps}
 use Rattle.c_types_operators.specs.Rules.{Fine, pair}
 use Rattle.c_types_operators.specs.Scopes.{found}
-use Rattle.c_types_operators.specs.Operators.{is_logical, rest_of}
-use Rattle.c_types_expressions.specs.Expressions.{designated, value, tested_value, literals}
+use Rattle.c_types_operators.specs.Operators.{is_logical, rest_of, gives_nothing, a_value}
+use Rattle.c_types_expressions.specs.Expressions.{designated, value, call_in, tested_value, literals}
 use Rattle.c_types_operators.specs.Judging.{Judges}
 use Rattle.c_types_operators.specs.Views.{designated_of}
-use Rattle.c_types_operators.proofs.JudgingLemmas.{fine, paired_when}
+use Rattle.c_types_operators.proofs.JudgingLemmas.{fine, paired_when, misplaced_first}
 use Rattle.c_types_expressions.proofs.ArgumentLemmas.{drop-next, next_argument}
-use Rattle.c_types_expressions.proofs.ListNodes.{call_tree, comma_tree, judged_call}
+use Rattle.c_types_expressions.proofs.ListNodes.{call_tree, comma_tree, judged_call, judged_literal}
 use Rattle.c_types_expressions.proofs.expressions.+expressions.Goals as goal
 
 pub designated-returns-in-Number : goal.designated-returns-in-Number
-designated-returns-in-Number t c = rw c.in-Number.is (fine _ (search rules) refl)
+designated-returns-in-Number t c =
+    let made = c.literal in
+    let e : typed.constant (if c.in-Number.long then long else int) c.in-Number.value ≡ expr_of c.number.result = search rules in
+    rw c.in-Number.is
+    (subst (λ x. IfOk made.result (λ answer. Judges designated_of c.args.notes.now [] (Fine (a_value x)) answer c.args.notes.now)) (sym e) (judged_literal c.args.notes.now _ made.result made.ensures))
 
 pub designated-returns-in-Char : goal.designated-returns-in-Char
-designated-returns-in-Char t c = rw c.in-Char.is (fine _ (ap Fine (sym c.character.ensures)) refl)
+designated-returns-in-Char t c =
+    let made = c.literal-in-Char in
+    rw c.in-Char.is
+    (subst (λ x. IfOk made.result (λ answer. Judges designated_of c.args.notes.now [] (Fine (a_value x)) answer c.args.notes.now)) c.character.ensures (judged_literal c.args.notes.now _ made.result made.ensures))
 
 pub designated-returns-in-Null : goal.designated-returns-in-Null
-designated-returns-in-Null t c = rw c.in-Null.is (fine _ (ap Fine (sym c.null.ensures)) refl)
+designated-returns-in-Null t c =
+    let made = c.literal-in-Null in
+    rw c.in-Null.is
+    (subst (λ x. IfOk made.result (λ answer. Judges designated_of c.args.notes.now [] (Fine (a_value x)) answer c.args.notes.now)) c.null.ensures (judged_literal c.args.notes.now _ made.result made.ensures))
 
 pub designated-returns-in-Eof : goal.designated-returns-in-Eof
-designated-returns-in-Eof t c = rw c.in-Eof.is (fine _ (ap Fine (sym c.end_of_file.ensures)) refl)
+designated-returns-in-Eof t c =
+    let made = c.literal-in-Eof in
+    rw c.in-Eof.is
+    (subst (λ x. IfOk made.result (λ answer. Judges designated_of c.args.notes.now [] (Fine (a_value x)) answer c.args.notes.now)) c.end_of_file.ensures (judged_literal c.args.notes.now _ made.result made.ensures))
 
 pub designated-returns-in-Call : goal.designated-returns-in-Call
 designated-returns-in-Call t c =
-    subst (λ e. IfOk c.call.result (λ answer. Judges designated_of c.args.notes.now (literals e) (designated c.args.scope.now c.args.notes.now.texts e) answer c.call.new.notes))
-    (call_tree c.args.e.now c.deref.result.now c.in-Call.place c.in-Call.name c.in-Call.arguments c.in-Call.is (search rules)) c.call.ensures
+    subst (λ e. IfOk c.called_value.result (λ answer. Judges designated_of c.args.notes.now (literals e) (designated c.args.scope.now c.args.notes.now.texts e) answer c.called_value.new.notes))
+    (call_tree c.args.e.now c.deref.result.now c.in-Call.place c.in-Call.name c.in-Call.arguments c.in-Call.is (search rules)) c.called_value.ensures
 
 pub designated-returns-in-Comma : goal.designated-returns-in-Comma
 designated-returns-in-Comma t c =
@@ -60,7 +79,7 @@ designated-returns-in-Assign t c =
     subst (λ e. IfOk c.assign.result (λ answer. Judges designated_of c.args.notes.now (literals e) (designated c.args.scope.now c.args.notes.now.texts e) answer c.assign.new.notes)) is c.assign.ensures
 
 pub value-returns : goal.value-returns
-value-returns t c = c.in_ok-answer.ensures.carries _ _ _ c.in_ok-what.ensures
+value-returns t c = (c.in_ok-answer.ensures _).carries _ _ _ c.in_ok-what.ensures
 
 pub tested_value-returns : goal.tested_value-returns
 tested_value-returns t c = c.tested.ensures.carries _ _ _ c.in_ok-x.ensures
@@ -77,7 +96,7 @@ cast-returns t c = rw (← c.in_ok-to.ensures) (c.in_ok-answer.ensures.carries _
 pub indexed-returns : goal.indexed-returns
 indexed-returns t c =
     c.in_ok-answer.ensures.carries _ _ _ _ _ (λ texts. value c.args.scope.now texts (source.expr_of c.args.index.now))
-    (c.based-what.ensures.carries _ _ _ c.in_ok-what.ensures) c.in_ok-i.ensures
+    c.in_ok-what.ensures c.in_ok-i.ensures
 
 pub binary-returns-then-is_logical : goal.binary-returns-then-is_logical
 binary-returns-then-is_logical t c =
@@ -119,6 +138,18 @@ pub call-returns : goal.call-returns
 call-returns t c =
     judged_call c.args.scope.now c.args.place c.args.name.now c.args.list.now c.wanted.result.now c.find-meant.result
     (c.find-meant.ensures ∙ ap (λ name. found name c.args.scope.now) c.list.ensures) c.wanted.ensures c.called-function.ensures c.in_ok-typed.ensures (c.in_ok-answer.ensures _)
+
+pub called_value-returns-then-gives_nothing : goal.called_value-returns-then-gives_nothing
+called_value-returns-then-gives_nothing t c =
+    let means : option_map meant_of c.find-meant.result ≡ found c.args.name.now c.args.scope.now = c.find-meant.ensures ∙ ap (λ name. found name c.args.scope.now) c.list.ensures in
+    let e : gives_nothing (found c.args.name.now c.args.scope.now) ≡ true = ap gives_nothing (sym means) ∙ (sym c.gives_nothing.ensures ∙ c.if-gives_nothing.true) in
+    rw e (misplaced_first (λ texts. call_in c.args.scope.now texts c.args.place c.args.name.now (tree.exps (map source.expr_of c.args.list.now))) WrongOperands c.args.place c.breaks.ensures c.in_ok-unused.ensures)
+
+pub called_value-returns : goal.called_value-returns
+called_value-returns t c =
+    let means : option_map meant_of c.find-meant.result ≡ found c.args.name.now c.args.scope.now = c.find-meant.ensures ∙ ap (λ name. found name c.args.scope.now) c.list.ensures in
+    let e : gives_nothing (found c.args.name.now c.args.scope.now) ≡ false = ap gives_nothing (sym means) ∙ (sym c.gives_nothing.ensures ∙ c.if-gives_nothing.false) in
+    rw e ((c.as_value.ensures _).carries _ _ _ c.in_ok-x.ensures)
 
 pub comma-returns : goal.comma-returns
 comma-returns t c = (c.as_value.ensures _).carries _ _ _ (c.in_ok-x.ensures.carries _ _ _ c.in_ok-typed.ensures)

@@ -43,6 +43,9 @@ decreases-arguments l = 4 * weights (c.exps (map source.expr_of l.list.now))
 abbrev pub decreases-call : goal.decreases-call
 decreases-call l = 4 * weights (c.exps (map source.expr_of l.list.now)) + 1
 
+abbrev pub decreases-called_value : goal.decreases-called_value
+decreases-called_value l = 4 * weights (c.exps (map source.expr_of l.list.now)) + 2
+
 abbrev pub decreases-comma : goal.decreases-comma
 decreases-comma l = 4 * weights (c.exps (map source.expr_of l.list.now)) + 1
 

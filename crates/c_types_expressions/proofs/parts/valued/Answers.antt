@@ -1,9 +1,11 @@
-use Rattle.std.proofs.Common.{refl}
+use Rattle.std.proofs.Common.{refl, ap, sym}
+use Rattle.c_types_operators.specs.Rules.{Fine}
 use Rattle.c_types_operators.proofs.PartLemmas.{carries_some, carries_none}
+use Rattle.c_types_operators.proofs.JudgingLemmas.{fine}
 use Rattle.c_types_expressions.proofs.parts.valued.Goals as goal
 
-pub returns-in_ok-answer-in-Some : goal.returns-in_ok-answer-in-Some
-returns-in_ok-answer-in-Some c = carries_some c.in-Some.is (rw c.new.ensures at c.in_ok-answer-in-Some.ensures)
+pub returns-in_ok-value-in-Some : goal.returns-in_ok-value-in-Some
+returns-in_ok-value-in-Some c = λ now. carries_some c.in-Some.is (fine _ (ap (λ x. Fine x) (sym c.in_ok-value-in-Some.ensures)) refl)
 
 pub returns-in-None : goal.returns-in-None
-returns-in-None c = carries_none (λ found. refl) c.in-None.is
+returns-in-None c = λ now. carries_none (λ found. refl) c.in-None.is

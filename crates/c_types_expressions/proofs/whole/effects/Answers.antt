@@ -11,4 +11,4 @@ loop-e-init c = fine _ (ap (λ xs. Fine (list_exps xs)) (sym c.new.ensures.items
 pub loop-e-preserved : goal.loop-e-preserved
 loop-e-preserved c =
     next_effect c.args.scope.now c.args.list.now c.loop-e.e-index c.e-item.result c.loop-e-test.true c.e-item.is
-    c.loop-e.invariant c.in_ok-what.ensures c.in_ok-x.ensures c.in_ok-typed.ensures
+    c.loop-e.invariant c.in_ok-x.ensures c.in_ok-typed.ensures

@@ -8,5 +8,5 @@ use Rattle.c_types_operators.proofs.operations.binary_value.Goals as goal
 
 pub returns : goal.returns
 returns c =
-    let e : chosen c.args.op (operand (source.expr_of c.args.left.source.now) (expr_of c.args.left.value)) (operand (source.expr_of c.args.right.source.now) (expr_of c.args.right.value)) ≡ Some c.in-Some.choice = cc in
+    let e : chosen c.args.op (operand (source.expr_of c.args.left.source.now) (expr_of c.args.left.value.value)) (operand (source.expr_of c.args.right.source.now) (expr_of c.args.right.value.value)) ≡ Some c.in-Some.choice = cc in
     fine _ (rw e (cc c.in_ok-value.ensures)) refl

@@ -1,12 +1,12 @@
 use Rattle.std.proofs.Common.{◌≡◌, refl, true}
 use Rattle.c_typed.specs.Views.{expr_of}
 use Rattle.c_typed.specs.ValueTypes.{leads, is_integer}
-use Rattle.c_types_operators.specs.Operators.{type_of}
+use Rattle.c_typed.specs.ExprTypes.{type_of}
 use Rattle.c_types_operators.proofs.JudgingLemmas.{fine}
 use Rattle.c_types_operators.proofs.operations.indexed_pointer.Goals as goal
 
 pub returns-then-is_integer : goal.returns-then-is_integer
 returns-then-is_integer c =
-    let pointer : leads (type_of (expr_of c.args.x)) ≡ true = cc in
-    let number : is_integer (type_of (expr_of c.args.index)) ≡ true = cc in
+    let pointer : leads (type_of (expr_of c.args.x.value)) ≡ true = cc in
+    let number : is_integer (type_of (expr_of c.args.index.value)) ≡ true = cc in
     fine _ (rw (pointer, number) (cc c.in_ok-address.ensures)) refl

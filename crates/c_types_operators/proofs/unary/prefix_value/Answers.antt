@@ -11,5 +11,5 @@ returns c =
     fine _
     (rw e
     (ap (λ x. Fine (a_value x))
-    (sym (c.in_ok-value.ensures ∙ ap (λ x. updated (target_of c.args.target) c.in-Some.choice x) (c.in_ok-one.ensures ∙ ap (λ x. converted c.in-Some.choice.right x) c.one.ensures)))))
+    (sym (c.in_ok-value.ensures ∙ ap (λ x. updated (target_of c.args.target) c.in-Some.choice x) (c.in_ok-one.ensures ∙ ap (λ x. converted c.in-Some.choice.right x) c.in_ok-step.ensures)))))
     refl

@@ -1,9 +1,0 @@
-use Rattle.std.proofs.Common.{refl}
-use Rattle.c_types_operators.proofs.PartLemmas.{carries_some, carries_none}
-use Rattle.c_types_expressions.proofs.parts.based.Goals as goal
-
-pub returns-in-Some : goal.returns-in-Some
-returns-in-Some c = carries_some c.in-Some.is (rw c.new.ensures at c.based.ensures)
-
-pub returns-in-None : goal.returns-in-None
-returns-in-None c = carries_none (λ found. refl) c.in-None.is

@@ -1,0 +1,6 @@
+pub mod Code
+pub mod Expressions
+pub mod Items
+pub mod Lowered
+pub mod Operators
+pub mod Statements

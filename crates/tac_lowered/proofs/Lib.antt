@@ -1,1 +1,4 @@
+pub mod Geometry
+pub mod Gives
+pub mod Relation
 pub mod Worked

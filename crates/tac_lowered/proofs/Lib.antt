@@ -1,3 +1,4 @@
+pub mod Computing
 pub mod Geometry
 pub mod Gives
 pub mod Relation

@@ -185,7 +185,7 @@ all_least : (rs : List ℕ) (n : ℕ) → n ≤ up_to_all rs n
 all_least [] n = omega arith
 all_least (r ∷ rs) n = let h = all_least rs n in omega (arith, h)
 
-end_least : (e : End) (n : ℕ) → n ≤ up_to_end e n
+pub end_least : (e : End) (n : ℕ) → n ≤ up_to_end e n
 end_least (Jump l) n = omega arith
 end_least (Branch r there other) n = omega arith
 end_least (Call to f args next) n = let h = all_least args n in let a = up_least to (up_to_all args n) in omega (arith, h, a)

@@ -38,11 +38,11 @@ module _ (C : Spot) where
 
   -- the register has the value, and keeps it while registers up to r are kept, and a slot's while slots are
   pub record Stays (is_kept : Bool) (reg r : ℕ) (v : ℤ) (regs : List ℤ) (u : e.State) : Type 0 where
-    pub by : (regs' : List ℤ) (u' : e.State) → Kept C (r + 1) regs regs' → Match C regs' u' → (is_kept ≡ true → u'.slots ≡ u.slots) → reg_of regs' reg ≡ v
+    pub by : (regs' : List ℤ) (u' : e.State) → reg < C.F.regs → Kept C (r + 1) regs regs' → Match C regs' u' → (is_kept ≡ true → u'.slots ≡ u.slots) → reg_of regs' reg ≡ v
 
   -- the value is in a register, which may be a slot's
   pub record Puts (is_kept : Bool) (a : Code) (reg r : ℕ) (is_still : Bool) (w : Width) (m : Doing ℤ) : Type 0 where
-    pub by : (x : Loop) (o : Open) (rest : List Item) → Has C o (items a x onward o ++ rest) → reg < C.F.regs → (d : ℕ) → d ≤ C.c → (k : ℤ → Step) (regs : List ℤ) (t : e.State) → t.budget ≤ d → Match C regs t
+    pub by : (x : Loop) (o : Open) (rest : List Item) → Has C o (items a x onward o ++ rest) → (d : ℕ) → d ≤ C.c → (k : ℤ → Step) (regs : List ℤ) (t : e.State) → t.budget ≤ d → Match C regs t
         → ((v : ℤ) (regs' : List ℤ) (u : e.State) → After r is_still w d regs t v regs' u → Stays is_kept reg r v regs' u → Follows C (goes a false o) rest regs' u (k v u))
         → Follows C o (items a x onward o ++ rest) regs t (m k t)
 
@@ -191,13 +191,12 @@ module _ (C : Spot) where
   -- ---- operands
 
   pub gives_puts : (is_kept : Bool) (a : Code) (r : ℕ) (q : Bool) (w : Width) (m : Doing ℤ) → many C ≤ r → Gives a (Some r) r q w m → Puts is_kept a r r q w m
-  gives_puts is_kept a r q w m le g = record { by = λ x o rest h room d dc k regs t qd mt next.
+  gives_puts is_kept a r q w m le g = record { by = λ x o rest h d dc k regs t qd mt next.
       g.by x onward o rest h d dc k regs t qd mt (λ v regs' u f.
-          let long : r < length regs' = let e1 = f.match'.room in omega (arith, e1) in
           next v (slice_set regs' r v) u (after_set r r q w d regs t v v regs' u le (omega arith) f)
-          (record { by = λ regs3 u3 kept mt3 slots. let own : r < r + 1 = omega arith in kept.by r le own ∙ set_same r v regs' long })) }
+          (record { by = λ regs3 u3 in_regs kept mt3 slots. let long : r < length regs' = let e1 = f.match'.room in omega (arith, e1) in let own : r < r + 1 = omega arith in kept.by r le own ∙ set_same r v regs' long })) }
 
   pub slot_puts : (is_kept : Bool) (j r : ℕ) → is_kept ≡ true → j < many C → Puts is_kept nothing j r true (width_of (kind_of C j)) (get_slot j)
-  slot_puts is_kept j r held lt = record { by = λ x o rest h room d dc k regs t qd mt next.
+  slot_puts is_kept j r held lt = record { by = λ x o rest h d dc k regs t qd mt next.
       next (slot_of C t j) regs t (record { budget = qd; match' = mt; kept = kept_all r regs; still = λ _. refl; lies = mt.lies j lt })
-      (record { by = λ regs3 u3 kept mt3 slots. mt3.same j lt ∙ ap (λ s. slice_index_or s j (pos 0)) (slots held) }) }
+      (record { by = λ regs3 u3 in_regs kept mt3 slots. mt3.same j lt ∙ ap (λ s. slice_index_or s j (pos 0)) (slots held) }) }

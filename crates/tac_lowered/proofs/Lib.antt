@@ -1,5 +1,7 @@
 pub mod Computing
+pub mod Constructs
 pub mod Geometry
 pub mod Gives
 pub mod Relation
+pub mod Widths
 pub mod Worked

@@ -181,7 +181,7 @@ module _ (C : Spot) where
   pub jumps : (o : Open) (s to : ℕ) (is : List Item) (regs : List ℤ) (t : e.State) (r : Report) → Has o (Close s (Jump to) ∷ is) → Nears to regs t r → Follows o (Close s (Jump to) ∷ is) regs t r
   jumps o s to is regs t r h a = silent C.funcs C.places (place o (Close s (Jump to) ∷ is) regs t) (start to regs t) t r (ended o s (Jump to) is regs t h) a
 
-  branch_steps : (o : Open) (s r there other : ℕ) (is : List Item) (v : ℤ) (yes' no' : Step) (regs : List ℤ) (t : e.State) → Has o (Close s (Branch r there other) ∷ is) → reg_of regs r ≡ v
+  pub branch_steps : (o : Open) (s r there other : ℕ) (is : List Item) (v : ℤ) (yes' no' : Step) (regs : List ℤ) (t : e.State) → Has o (Close s (Branch r there other) ∷ is) → reg_of regs r ≡ v
       → Nears there regs t (yes' t) → Nears other regs t (no' t) → Follows o (Close s (Branch r there other) ∷ is) regs t ((if is_true v then yes' else no') t)
   branch_steps o s r there other is v yes' no' regs t h same a b = go v same
     where

@@ -45,7 +45,7 @@ next_runs (jump s l) o = record { by = refl }
 end_runs : (s : ℕ) (e : End) (o : Open) → Runs (Close s e ∷ []) o (fresh o)
 end_runs s e o = record { by = refl }
 
-own_runs : (a : Code) (is : List Item) (p q : Open) → Runs is p q → Runs (own_items a is) p (owned a p q)
+pub own_runs : (a : Code) (is : List Item) (p q : Open) → Runs is p q → Runs (own_items a is) p (owned a p q)
 own_runs a is p q r = go (is_jump a)
   where
     go : (b : Bool) → Runs (if b then [] else is) p (if b then p else q)

@@ -1,5 +1,6 @@
 pub mod Computing
 pub mod Constructs
+pub mod Executing
 pub mod Geometry
 pub mod Gives
 pub mod Relation

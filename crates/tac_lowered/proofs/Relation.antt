@@ -1,5 +1,5 @@
 -- The relation of states, and the steps that lemmas are made of.
-use Rattle.std.proofs.Common.{◌≡◌, ℕ, zero, suc, ◌+◌, ◌<◌, ◌≤◌, ◌%◌, ℤ, pos, negsuc, List, [], ◌∷◌, ◌++◌, length, Bool, true, false, refl, sym, ap, ◌∙◌, subst, arith, Option, Some, None, append_assoc}
+use Rattle.std.proofs.Common.{◌≡◌, ℕ, zero, suc, ◌+◌, ◌<◌, ◌≤◌, ◌%◌, ℤ, pos, negsuc, List, [], ◌∷◌, ◌++◌, length, Bool, true, false, refl, sym, ap, ◌∙◌, subst, arith, Option, Some, None, append_assoc, map}
 use Rattle.std.specs.Prelude.{slice_get, slice_index_or, if◌then◌else◌, ◌==◌}
 use Rattle.std.proofs.lemmas.List.{append-nil}
 use Rattle.ib_base.specs.declared.integers.Width.{Width}
@@ -15,6 +15,8 @@ use Rattle.c_meaning.specs.Doing.{Step, Doing, stop, spend, spend_of}
 use Rattle.c_meaning.specs.Meaning.{Exits}
 use Rattle.c_typed.specs.declared.types.ValueType.{ValueType}
 use Rattle.c_typed.specs.declared.types.ValueType.TheVariants as v
+use Rattle.c_typed.specs.declared.program.Param.{Param}
+use Rattle.c_typed.specs.Tree.{Function}
 use Rattle.c_typed.specs.Program as typed
 use Rattle.c_typed.specs.Values.{is_true, width_of}
 use Rattle.tac_core.specs.declared.code.End.{End}
@@ -60,6 +62,31 @@ module _ (funcs : List TacFunc) (places : List Place) where
       go zero h = record { by = (0, refl, λ x. omega arith) }
       go (suc b) h = let a = next b h in record { by = (a.by.0, a.by.1, λ x. omega (arith, a.by.2 x)) }
 
+abbrev pub Lies : Width → ℤ → Type 0
+Lies w z = wrapped w z ≡ z
+
+-- back in the caller's frame
+pub record Back (t u : e.State) : Type 0 where
+  pub slots : u.slots ≡ t.slots
+  pub depth : u.depth ≡ t.depth
+  pub base : u.base ≡ t.base
+  pub top : u.top ≡ t.top
+
+-- as many values as parameters, each of its parameter's type
+abbrev pub Suit : List Param → List ℤ → Type 0
+Suit [] [] = Unit {0}
+Suit (q ∷ qs) (v ∷ vs) = Lies (width_of q.ty) v × Suit qs vs
+Suit qs vs = ⊥
+
+-- what calls do with at most so much budget, from each block that ends with one
+pub record Called (p : typed.Program) (funcs : List TacFunc) (places : List Place) (c : ℕ) (call : Place → ℕ → List ℤ → Doing ℤ) : Type 0 where
+  pub by : (f l : ℕ) (b : Block) (to : Option ℕ) (g : ℕ) (G : Function) → slice_get p.functions g ≡ Some G → (args : List ℕ) (next : ℕ) (vs regs : List ℤ) (waiting : List Waiting)
+      → (d : ℕ) → d ≤ c → (k : ℤ → Step) (t : e.State) → t.budget ≤ d
+      → block_of (slice_get funcs f) l ≡ Some b → b.«end» ≡ Call to g args next → map (reg_of regs) args ≡ vs → Suit G.params vs
+      → t.depth ≡ suc (length waiting) → t.top ≡ t.base + tac.frame_of (slice_get funcs f) → t.top % 16 ≡ 0 → 4096 ≤ t.top
+      → ((v : ℤ) (u : e.State) → u.budget ≤ d → Back t u → Lies (width_of G.result) v → Reaches funcs places (go funcs f next u.base (set_in regs to v) waiting u.memory) u (k v u))
+      → Reaches funcs places (In (record { func = f; label = l; base = t.base; regs = regs; ops = [] }) waiting t.memory) t (call (place_of places b.end_stmt) g vs k t)
+
 -- The function that runs, in a program: its number, its variables' types, the calls that wait, and the calls of the meaning.
 pub record Spot : Type 0 where
   pub funcs : List TacFunc
@@ -80,10 +107,12 @@ pub record Spot : Type 0 where
   -- more than any budget, and the greatest budget for which calls are known
   pub m : ℕ
   pub c : ℕ
+  pub small : c < m
+  pub known : Called p funcs places c call
+  -- what the function gives
+  pub result : ValueType
+  pub rounded : F.frame % 16 ≡ 0
   pub stands : (s : ℕ) → typed.place_of p s ≡ place_of places s
-
-abbrev pub Lies : Width → ℤ → Type 0
-Lies w z = wrapped w z ≡ z
 
 module _ (C : Spot) where
   abbrev pub many : ℕ

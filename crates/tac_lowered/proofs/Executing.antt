@@ -13,7 +13,7 @@ use Rattle.tac_lowered.specs.Code.{breaks, continues, returns, Code, nothing, bo
 use Rattle.tac_lowered.specs.Items.{Item, Close, Open, fresh, fresh_if, is_jump, owned, goes, goes_test, Next, onward, jump, closes, close, Loop, label_of, entry, own_items, items, test_items}
 use Rattle.tac_lowered.proofs.Geometry.{Runs, runs, own_runs, own_empty, empty_behind, empty_test}
 use Rattle.tac_lowered.proofs.Relation.{Spot, Lies, Match, Kept, Follows, Behind, Begins, Nears, Has, nearly, spend_near, close_has, behind_has, code_has, test_has, jumps, enters}
-use Rattle.tac_lowered.proofs.Gives.{Gives, nothing_follows, first_has, second_has, both_follows}
+use Rattle.tac_lowered.proofs.Gives.{Gives, nothing_follows, entry_plain, first_has, second_has, both_follows}
 use Rattle.tac_lowered.proofs.Constructs.{Tests}
 
 or_left : (a b : Bool) → a ≡ true → (a || b) ≡ true
@@ -26,12 +26,6 @@ or_left false b h = let z : true ≡ false = sym h in absurd (apart z)
 or_right : (a b : Bool) → b ≡ true → (a || b) ≡ true
 or_right true b h = refl
 or_right false b h = h
-
-entry_plain : (a : Code) (x : Loop) (l label : ℕ) → is_jump a ≡ false → entry a x l label ≡ label
-entry_plain nothing x l label h = let z : ⊥ = cc in absurd z
-entry_plain (leave s breaks) x l label h = let z : ⊥ = cc in absurd z
-entry_plain (leave s continues) x l label h = let z : ⊥ = cc in absurd z
-entry_plain a x l label h = refl
 
 module _ (C : Spot) where
   abbrev pub Way : Type 1

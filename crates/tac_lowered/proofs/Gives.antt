@@ -1,6 +1,6 @@
 -- What code of expressions gives, and how it is put together.
 use Rattle.std.proofs.Common.{◌≡◌, ◌≢◌, ℕ, ◌+◌, ◌<◌, ◌≤◌, ℤ, pos, List, [], ◌∷◌, ◌++◌, length, Bool, true, false, ◌&&◌, refl, sym, ap, ◌∙◌, subst, arith, Option, Some, None, append_assoc, get_or-set_same, get_or-set_other, nat_eq}
-use Rattle.std.specs.Prelude.{slice_get, slice_index_or, slice_set}
+use Rattle.std.specs.Prelude.{slice_get, slice_index_or, slice_set, if◌then◌else◌}
 use Rattle.std.proofs.Math.ListN.{length-set}
 use Rattle.std.proofs.lemmas.Bool.{eq-eqb, eqb-true}
 use Rattle.std.proofs.lemmas.List.{append-nil, set-get_or}
@@ -15,11 +15,17 @@ use Rattle.c_typed.specs.Program as typed
 use Rattle.c_typed.specs.Values.{width_of}
 use Rattle.tac_core.specs.declared.code.End.TheVariants.{Jump}
 use Rattle.tac_core.specs.Meaning.{Does, Fails, effect_of, reg_of, set_in}
-use Rattle.tac_lowered.specs.Code.{Code, does, both, nothing}
-use Rattle.tac_lowered.specs.Items.{Item, Do, Close, Open, fresh_if, after, goes, Next, onward, jump, closes, close, put, Loop, items}
+use Rattle.tac_lowered.specs.Code.{breaks, continues, Code, does, both, nothing, leave}
+use Rattle.tac_lowered.specs.Items.{Item, Do, Close, Open, fresh_if, after, goes, Next, onward, jump, closes, close, put, Loop, items, is_jump, entry, own_items}
 use Rattle.tac_lowered.specs.Operators.{or_else}
 use Rattle.tac_lowered.proofs.Geometry.{runs, put_runs, first_below, second_below, target_below}
-use Rattle.tac_lowered.proofs.Relation.{Reaches, nearly, Spot, Lies, many, slot_of, kind_of, Match, Kept, Follows, Behind, Begins, Has, behind_has, code_has, jumps, puts, faults_at, put_has}
+use Rattle.tac_lowered.proofs.Relation.{Reaches, nearly, Spot, Lies, many, slot_of, kind_of, Match, Kept, Follows, Behind, Begins, Has, behind_has, code_has, jumps, puts, faults_at, put_has, enters}
+
+pub entry_plain : (a : Code) (x : Loop) (l label : ℕ) → is_jump a ≡ false → entry a x l label ≡ label
+entry_plain nothing x l label h = let z : ⊥ = cc in absurd z
+entry_plain (leave s breaks) x l label h = let z : ⊥ = cc in absurd z
+entry_plain (leave s continues) x l label h = let z : ⊥ = cc in absurd z
+entry_plain a x l label h = refl
 
 module _ (C : Spot) where
   -- what holds behind an expression's code, which gives v
@@ -30,11 +36,26 @@ module _ (C : Spot) where
     pub still : is_still ≡ true → u.slots ≡ t.slots
     pub lies : Lies w v
 
-  -- The value goes to `to`, which is the last thing written: it may be a slot.
+  abbrev pub GivesBy : Code → (to : Option ℕ) (r : ℕ) (is_still : Bool) (w : Width) → Doing ℤ → Type 0
+  GivesBy a to r is_still w m = (x : Loop) (n : Next) (o : Open) (rest : List Item) → Has C o (items a x n o ++ rest) → (d : ℕ) → d ≤ C.c → (k : ℤ → Step) (regs : List ℤ) (t : e.State) → t.budget ≤ d → Match C regs t
+      → ((v : ℤ) (regs' : List ℤ) (u : e.State) → After r is_still w d regs t v regs' u → Behind C n (goes a (closes n) o) rest (set_in regs' to v) u (k v u))
+      → Follows C o (items a x n o ++ rest) regs t (m k t)
+
+  -- The value goes to `to`, which is the last thing written: it may be a slot. From where the code stands, and from a block of its own.
   pub record Gives (a : Code) (to : Option ℕ) (r : ℕ) (is_still : Bool) (w : Width) (m : Doing ℤ) : Type 0 where
-    pub by : (x : Loop) (n : Next) (o : Open) (rest : List Item) → Has C o (items a x n o ++ rest) → (d : ℕ) → d ≤ C.c → (k : ℤ → Step) (regs : List ℤ) (t : e.State) → t.budget ≤ d → Match C regs t
-        → ((v : ℤ) (regs' : List ℤ) (u : e.State) → After r is_still w d regs t v regs' u → Behind C n (goes a (closes n) o) rest (set_in regs' to v) u (k v u))
-        → Follows C o (items a x n o ++ rest) regs t (m k t)
+    pub by : GivesBy a to r is_still w m
+    pub own : (x : Loop) (s l : ℕ) (o : Open) (rest : List Item) → o.count ≡ 0 → Has C o (own_items a (items a x (jump s l) o) ++ rest) → (d : ℕ) → d ≤ C.c → (k : ℤ → Step) (regs : List ℤ) (t : e.State) → t.budget ≤ d → Match C regs t
+        → ((v : ℤ) (regs' : List ℤ) (u : e.State) → After r is_still w d regs t v regs' u → Begins C l (set_in regs' to v) u (k v u))
+        → Begins C (entry a x l o.label) regs t (m k t)
+
+  -- what is more than a jump
+  pub plain_gives : (a : Code) (to : Option ℕ) (r : ℕ) (is_still : Bool) (w : Width) (m : Doing ℤ) → is_jump a ≡ false → GivesBy a to r is_still w m → Gives a to r is_still w m
+  plain_gives a to r is_still w m plain by' = record {
+    by = by';
+    own = λ x s l o rest none h d dc k regs t q mt next.
+        let h1 = subst (λ b. Has C o ((if b then [] else items a x (jump s l) o) ++ rest)) plain h in
+        subst (λ l'. Begins C l' regs t (m k t)) (sym (entry_plain a x l o.label plain)) (enters C o (items a x (jump s l) o ++ rest) regs t (m k t) none h1 (by' x (jump s l) o rest h1 d dc k regs t q mt next));
+  }
 
   -- the register has the value, and keeps it while registers up to r are kept, and a slot's while slots are
   pub record Stays (is_kept : Bool) (reg r : ℕ) (v : ℤ) (regs : List ℤ) (u : e.State) : Type 0 where

@@ -3,4 +3,5 @@ pub mod Expressions
 pub mod Items
 pub mod Lowered
 pub mod Operators
+pub mod Sound
 pub mod Statements

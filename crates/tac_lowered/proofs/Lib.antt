@@ -4,6 +4,8 @@ pub mod Constructs
 pub mod Executing
 pub mod Geometry
 pub mod Gives
+pub mod Operations
 pub mod Relation
+pub mod Values
 pub mod Widths
 pub mod Worked

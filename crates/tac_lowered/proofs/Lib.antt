@@ -6,6 +6,7 @@ pub mod Geometry
 pub mod Gives
 pub mod Operations
 pub mod Relation
+pub mod Statements
 pub mod Values
 pub mod Widths
 pub mod Worked

@@ -1,6 +1,7 @@
 pub mod Calls
 pub mod Computing
 pub mod Constructs
+pub mod Entry
 pub mod Executing
 pub mod Geometry
 pub mod Gives

@@ -162,6 +162,11 @@ abbrev pub HasHome : List ValueType → (frame : ℕ) → ValueType → Home →
 HasHome kinds frame ty (h.Slot k) = slice_get kinds k ≡ Some ty
 HasHome kinds frame ty (h.Frame offset) = StandsIn frame ty offset
 
+-- each parameter's variable is there, and can be read
+abbrev pub HaveHomes : List ValueType → (frame : ℕ) → List Param → Type 0
+HaveHomes kinds frame [] = Unit {0}
+HaveHomes kinds frame (q ∷ qs) = HasHome kinds frame q.ty q.home × (is_value q.ty ≡ true) × HaveHomes kinds frame qs
+
 abbrev pub slots_of : List Param → List ℕ
 slots_of [] = []
 slots_of (q ∷ qs) = if_slot q.home (slots_of qs)
@@ -174,7 +179,7 @@ pub record KeepsFunction (p : Program) (f : Function) : Type 0 where
   -- the types of the slots: a variable has a slot of its own
   pub kinds : List ValueType
   pub many : length kinds ≡ f.slots
-  pub params : All (λ q. HasHome kinds f.frame q.ty q.home × (is_value q.ty ≡ true)) f.params
+  pub params : HaveHomes kinds f.frame f.params
   pub apart : AllPairs (λ a b. (a ≡ b) → ⊥) (slots_of f.params)
   pub few : length f.params ≤ 8
   pub small : f.frame ≤ 262144

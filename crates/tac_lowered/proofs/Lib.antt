@@ -6,6 +6,7 @@ pub mod Executing
 pub mod Geometry
 pub mod Gives
 pub mod Operations
+pub mod Prologue
 pub mod Relation
 pub mod Statements
 pub mod Values

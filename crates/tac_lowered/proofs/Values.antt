@@ -171,7 +171,7 @@ module _ (C : Spot) where
 
   -- ---- loads and conversions
 
-  bytes_same : (ty : ValueType) → is_value ty ≡ true → bytes_in (width_of ty) ≡ size_of ty
+  pub bytes_same : (ty : ValueType) → is_value ty ≡ true → bytes_in (width_of ty) ≡ size_of ty
   bytes_same (vt.Base Void) h = let z : ⊥ = cc in absurd z
   bytes_same (vt.Base Char) h = refl
   bytes_same (vt.Base Int) h = refl

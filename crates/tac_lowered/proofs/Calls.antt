@@ -49,7 +49,7 @@ module _ (funcs : List TacFunc) (places : List Place) where
 pub record Bodies (p : typed.Program) (funcs : List TacFunc) (places : List Place) (n : ℕ) : Type 0 where
   pub by : (g : ℕ) (G : Function) → slice_get p.functions g ≡ Some G → (vs : List ℤ) → Suit G.params vs → (d : ℕ) → d < n → (k : ℤ → Step) (waiting : List Waiting) (t : e.State) → t.budget ≤ d
       → t.depth ≡ length waiting → t.top % 16 ≡ 0 → 4096 ≤ t.top → t.top + G.frame ≤ 1048576
-      → ((v : ℤ) (u : e.State) (S : State) → u.budget ≤ d → u.base ≡ t.top → Lies (width_of G.result) v → tac_step funcs places S u.left ≡ do_return funcs v waiting u.memory u.left → Reaches funcs places S u (k v u))
+      → ((v : ℤ) (u : e.State) (S : State) → u.budget ≤ d → Lies (width_of G.result) v → tac_step funcs places S u.left ≡ do_return funcs v waiting u.memory u.left → Reaches funcs places S u (k v u))
       → Reaches funcs places (tac.call funcs g t.top vs waiting t.memory) t (execs p (calls p n) n G.body (body_exits k) (entered G vs t))
 
 nat_lt_le : (a b : ℕ) → nat_lt a b ≡ false → b ≤ a
@@ -105,7 +105,7 @@ module _ (p : typed.Program) (funcs : List TacFunc) (places : List Place) (frame
           goes true eo = record { by = (1, ap (λ z. m.continue (m.run (tac_step funcs places) 0) z t.out) (steps true eo) ∙ ap (λ out. Over (Faulted (place_of places b.end_stmt) StackOverflow) out t.left) (append-nil t.out), λ h. absurd h) }
           goes false eo =
               let near = bodies.by g G eg vs suit x (omega (arith, ex, q)) (λ v r. k v (left_to t' r)) (W ∷ waiting) t' (omega arith) depth rounded above (fits_in eo)
-                  (λ v u S' qu bu lies step.
+                  (λ v u S' qu lies step.
                       let u' : e.State = left_to t' u in
                       let qu' : u'.budget ≤ d = omega (arith, qu, ex, q) in
                       let a = back v u' qu' (record { slots = refl; depth = refl; base = refl; top = refl }) lies in

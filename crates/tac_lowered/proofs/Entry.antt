@@ -116,7 +116,7 @@ zeros_read zero k = refl
 zeros_read (suc n) zero = refl
 zeros_read (suc n) (suc k) = zeros_read n k
 
-zeros_long : (n : ℕ) → length (replicate n (pos 0)) ≡ n
+pub zeros_long : (n : ℕ) → length (replicate n (pos 0)) ≡ n
 zeros_long zero = refl
 zeros_long (suc n) = ap suc (zeros_long n)
 

@@ -207,6 +207,11 @@ module _ (C : Spot) where
       → tac_step C.funcs C.places (place o (Close s x ∷ is) regs t) t.left ≡ do_end C.funcs C.places (Some (with_before C.n C.last h.stands.before (Close s x ∷ is))) (record { func = C.f; label = o.label; base = t.base; regs = regs; ops = [] }) C.waiting t.memory t.left
   ended o s x is regs t h = ap (λ b. do_end C.funcs C.places b (record { func = C.f; label = o.label; base = t.base; regs = regs; ops = [] }) C.waiting t.memory t.left) (at_block o.label _ (found C.n C.last C.F.blocks o (Close s x ∷ is) h.stands))
 
+  -- the end of the last block
+  pub ended_last : (o : Open) (regs : List ℤ) (t : e.State) → (h : Has o [])
+      → tac_step C.funcs C.places (place o [] regs t) t.left ≡ do_end C.funcs C.places (Some (with_before C.n C.last h.stands.before [])) (record { func = C.f; label = o.label; base = t.base; regs = regs; ops = [] }) C.waiting t.memory t.left
+  ended_last o regs t h = ap (λ b. do_end C.funcs C.places b (record { func = C.f; label = o.label; base = t.base; regs = regs; ops = [] }) C.waiting t.memory t.left) (at_block o.label _ (found C.n C.last C.F.blocks o [] h.stands))
+
   pub jumps : (o : Open) (s to : ℕ) (is : List Item) (regs : List ℤ) (t : e.State) (r : Report) → Has o (Close s (Jump to) ∷ is) → Nears to regs t r → Follows o (Close s (Jump to) ∷ is) regs t r
   jumps o s to is regs t r h a = silent C.funcs C.places (place o (Close s (Jump to) ∷ is) regs t) (start to regs t) t r (ended o s (Jump to) is regs t h) a
 

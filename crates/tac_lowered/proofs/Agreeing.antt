@@ -8,7 +8,7 @@ use Rattle.ib_base.specs.declared.integers.Width.TheVariants.{W4}
 use Rattle.ib_base.specs.Integers.{wrapped}
 use Rattle.ib_mem.specs.Memory.{cleared}
 use Rattle.ib_meaning.specs.declared.place.Place.{Place}
-use Rattle.ib_meaning.specs.Agreement.{Agrees, Report, More, Over, Returned, Meaning}
+use Rattle.ib_meaning.specs.Agreement.{Agrees, Keeps, Report, More, Over, Returned}
 use Rattle.ib_meaning.specs.Machine as m
 use Rattle.ib_meaning.proofs.Agreement.{agree_by_ahead}
 use Rattle.c_meaning.specs.Doing as e
@@ -129,14 +129,14 @@ module _ (p : typed.Program) (sound : KeepsProgram p) (lowers : (C : Spot) → K
         → Reaches funcs places (tac.call funcs g s.top vs waiting s.memory) s (execs p (calls p n) n G.body (body_exits k) (entered G vs s))
     enters_body vs suit k s q depth rounded above small back =
         let a = enters spot first (items (body_of p G) lp onward first ++ []) regs0 t0 rep refl has
-            (both_follows spot P B lp onward first [] regs0 t0 rep
-                (stores_all spot G.frame G.params vs G.slots (free_in p G) K.params suit (omega (arith, K.many)) (omega arith) lp first (items B lp onward (goes P false first) ++ []) (first_has spot P B lp onward first [] has) regs0 t0 rep match0 arrived small
-                    (λ regs1 m1. (execs_do spot (lowers spot sound) G.body false K.body).by lp onward (goes P false first) [] (second_has spot P B lp onward first [] has) d (omega arith) (body_exits k) (record {
-                        next = λ regs2 u q2 m2. back (pos 0) u _ q2 (zero_lies (width_of G.result)) (ended_last spot (goes B false (goes P false first)) regs2 u last_has);
-                        on_break = λ h. absurd (ff h);
-                        on_continue = λ h. absurd (ff (sym (stay p K.kinds G.result G.body K.body) ∙ h));
-                        on_return = λ v st o is r regs2 u here q2 m2 e lies. back v u _ q2 lies (ended spot o st (Ret r) is regs2 u here ∙ ap (λ v. do_return funcs v waiting u.memory u.left) e);
-                      }) regs1 (entered G vs s) q m1))) in
+        (both_follows spot P B lp onward first [] regs0 t0 rep
+        (stores_all spot G.frame G.params vs G.slots (free_in p G) K.params suit (omega (arith, K.many)) (omega arith) lp first (items B lp onward (goes P false first) ++ []) (first_has spot P B lp onward first [] has) regs0 t0 rep match0 arrived small
+        (λ regs1 m1. (execs_do spot (lowers spot sound) G.body false K.body).by lp onward (goes P false first) [] (second_has spot P B lp onward first [] has) d (omega arith) (body_exits k) (record {
+          next = λ regs2 u q2 m2. back (pos 0) u _ q2 (zero_lies (width_of G.result)) (ended_last spot (goes B false (goes P false first)) regs2 u last_has);
+          on_break = λ h. absurd (ff h);
+          on_continue = λ h. absurd (ff (sym (stay p K.kinds G.result G.body K.body) ∙ h));
+          on_return = λ v st o is r regs2 u here q2 m2 e lies. back v u _ q2 lies (ended spot o st (Ret r) is regs2 u here ∙ ap (λ v. do_return funcs v waiting u.memory u.left) e);
+        }) regs1 (entered G vs s) q m1))) in
         subst (λ S. Reaches funcs places S s rep) (sym starts) (record { by = a.by })
       where
         rep : Report
@@ -184,3 +184,59 @@ module _ (p : typed.Program) (sound : KeepsProgram p) (lowers : (C : Spot) → K
   pub all_called : (n c : ℕ) → c < n → Called p funcs places c (calls p n)
   all_called zero c lt = let z : ⊥ = omega arith in absurd z
   all_called (suc n) c lt = called_more p funcs places (λ g G eg. ap tac.frame_of (there g G eg)) n (bodies n (all_called n)) c lt
+
+  -- ---- programs
+
+  main_same : (fs : List Function) → typed.main_in (map (λ f. f.name) fs) ≡ code.main_in (map (λ f. f.name) (map (lowered_function p) fs))
+  main_same [] = refl
+  main_same (f ∷ fs) = ap (λ z. if bytes_eq (codes "main") f.name then 0 else suc z) (main_same fs)
+
+  main_there : (f : Function) × (slice_get p.functions (typed.main_of p) ≡ Some f) × (f.params ≡ [])
+  main_there = go (slice_get p.functions (typed.main_of p)) refl sound.main
+    where
+      go : (o : Option Function) → slice_get p.functions (typed.main_of p) ≡ o → MatchOption o ⊥ (λ f. f.params ≡ []) → (f : Function) × (slice_get p.functions (typed.main_of p) ≡ Some f) × (f.params ≡ [])
+      go None e h = absurd h
+      go (Some f) e h = (f, e, h)
+
+  -- from the start of `main`
+  main_reaches : (input : List ℕ) (budget : ℕ) → Reaches funcs places (tac.call funcs (typed.main_of p) (typed.first_frame p) [] [] (me.first_memory p.image)) (me.start p input budget) (source_meaning p input budget)
+  unfolding source_meaning
+  main_reaches input budget =
+      let f = main_there.0 in
+      let K = keeps (typed.main_of p) f main_there.1 in
+      let suit : Suit f.params [] = subst (λ qs. Suit qs []) (sym main_there.2) tt in
+      let small : typed.first_frame p + f.frame ≤ 1048576 = let e1 = sound.image in let e2 = K.small in omega (arith, e1, e2) in
+      let a = (bodies (suc budget) (all_called (suc budget))).by (typed.main_of p) f main_there.1 [] suit budget (omega arith) ends [] (me.start p input budget) (omega arith) refl (omega arith) (omega arith) small
+      (λ v u S q lies step. record { by = (1, ap (λ z. m.continue (m.run (tac_step funcs places) 0) z u.out) step ∙ ap (λ out. Over (Returned (wrapped W4 v)) out u.left) (append-nil u.out), λ h. absurd h) }) in
+      subst (λ o. Reaches funcs places (tac.call funcs (typed.main_of p) (typed.first_frame p) [] [] (me.first_memory p.image)) (me.start p input budget) (run_main p (suc budget) o (me.start p input budget))) (sym main_there.1) a
+
+  memory_same : (image : List ℕ) → me.first_memory image ≡ tac.first_memory image
+  unfolding me.first_memory tac.first_memory
+  memory_same image = refl
+
+  runs_as : (input : List ℕ) (j : ℕ) → tac_meaning (lowered p) input j ≡ m.run (tac_step funcs places) j (tac.call funcs (typed.main_of p) (typed.first_frame p) [] [] (me.first_memory p.image)) input []
+  unfolding tac_meaning
+  runs_as input j =
+      ap (λ g. m.run (tac_step funcs places) j (tac.call funcs g (typed.first_frame p) [] [] (tac.first_memory p.image)) input []) (sym (main_same p.functions))
+      ∙ ap (λ z. m.run (tac_step funcs places) j (tac.call funcs (typed.main_of p) (typed.first_frame p) [] [] z) input []) (sym (memory_same p.image))
+
+  ahead : (input : List ℕ) (n : ℕ) → (j : ℕ) × (n ≤ j) × (source_meaning p input n ≡ tac_meaning (lowered p) input j)
+  ahead input n = go (source_meaning p input n) refl
+    where
+      r : Reaches funcs places (tac.call funcs (typed.main_of p) (typed.first_frame p) [] [] (me.first_memory p.image)) (me.start p input n) (source_meaning p input n)
+      r = main_reaches input n
+
+      same : tac_meaning (lowered p) input r.by.0 ≡ source_meaning p input n
+      same = runs_as input r.by.0 ∙ r.by.1
+
+      go : (rep : Report) → source_meaning p input n ≡ rep → (j : ℕ) × (n ≤ j) × (source_meaning p input n ≡ tac_meaning (lowered p) input j)
+      go (More out left) e = (r.by.0, r.by.2 (subst (λ z. IsMore z) (sym e) tt), sym same)
+      go (Over finish out left) e =
+          let le : r.by.0 ≤ r.by.0 + n = omega arith in
+          let k = (tac_steady (lowered p)).later input r.by.0 (r.by.0 + n) le in
+          let k1 = subst (λ z. Keeps z (tac_meaning (lowered p) input (r.by.0 + n))) (same ∙ e) k in
+          (r.by.0 + n, omega arith, e ∙ sym k1)
+
+  -- the two meanings agree, in all four parts
+  pub lowered_agrees : Agrees (source_meaning p) (tac_meaning (lowered p))
+  lowered_agrees = agree_by_ahead (source_meaning p) (tac_meaning (lowered p)) (tac_steady (lowered p)) ahead

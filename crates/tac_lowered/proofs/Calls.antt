@@ -58,8 +58,10 @@ nat_lt_le a b e = grind arith
 -- calls that nest one deeper
 module _ (p : typed.Program) (funcs : List TacFunc) (places : List Place) (frames : (g : ℕ) (G : Function) → slice_get p.functions g ≡ Some G → tac.frame_of (slice_get funcs g) ≡ G.frame) where
   pub called_more : (n : ℕ) → Bodies p funcs places n → (c : ℕ) → c < suc n → Called p funcs places c (calls p (suc n))
-  called_more n bodies c small = record { by = λ f l b to g G eg args next vs regs waiting d dc k t q eb ee ea suit depth top rounded above back.
-      by_budget f l b to g G eg args next vs regs waiting d dc k t q eb ee ea suit depth top rounded above back t.budget refl }
+  called_more n bodies c small = record {
+    by = λ f l b to g G eg args next vs regs waiting d dc k t q eb ee ea suit depth top rounded above back.
+        by_budget f l b to g G eg args next vs regs waiting d dc k t q eb ee ea suit depth top rounded above back t.budget refl;
+  }
     where
       by_budget : (f l : ℕ) (b : Block) (to : Option ℕ) (g : ℕ) (G : Function) → slice_get p.functions g ≡ Some G → (args : List ℕ) (next : ℕ) (vs regs : List ℤ) (waiting : List Waiting)
           → (d : ℕ) → d ≤ c → (k : ℤ → Step) (t : e.State) → t.budget ≤ d
@@ -105,11 +107,11 @@ module _ (p : typed.Program) (funcs : List TacFunc) (places : List Place) (frame
           goes true eo = record { by = (1, ap (λ z. m.continue (m.run (tac_step funcs places) 0) z t.out) (steps true eo) ∙ ap (λ out. Over (Faulted (place_of places b.end_stmt) StackOverflow) out t.left) (append-nil t.out), λ h. absurd h) }
           goes false eo =
               let near = bodies.by g G eg vs suit x (omega (arith, ex, q)) (λ v r. k v (left_to t' r)) (W ∷ waiting) t' (omega arith) depth rounded above (fits_in eo)
-                  (λ v u S' qu lies step.
-                      let u' : e.State = left_to t' u in
-                      let qu' : u'.budget ≤ d = omega (arith, qu, ex, q) in
-                      let a = back v u' qu' (record { slots = refl; depth = refl; base = refl; top = refl }) lies in
-                      let r = silent funcs places S' (tac.go funcs f next t.base (set_in regs to v) waiting u.memory) u (k v u') step (nearly funcs places _ u (k v u') (record { by = a.by })) in
-                      r) in
+              (λ v u S' qu lies step.
+              let u' : e.State = left_to t' u in
+              let qu' : u'.budget ≤ d = omega (arith, qu, ex, q) in
+              let a = back v u' qu' (record { slots = refl; depth = refl; base = refl; top = refl }) lies in
+              let r = silent funcs places S' (tac.go funcs f next t.base (set_in regs to v) waiting u.memory) u (k v u') step (nearly funcs places _ u (k v u') (record { by = a.by })) in
+              r) in
               let r = silent funcs places S (tac.call funcs g t.top vs (W ∷ waiting) t.memory) t _ (steps false eo) (record { by = (near.by.0, near.by.1, λ h. omega (arith, near.by.2 h, ex)) }) in
               r

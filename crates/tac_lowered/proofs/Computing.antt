@@ -159,9 +159,9 @@ module _ (C : Spot) where
           let s1 = same_set r r (pos size) regs regs (omega arith) (same_all r regs) in
           both_follows C a b lp onward o rest regs t rep
           (sets_follows C s (Const r (pos size)) lp onward o (items b lp onward (goes a false o) ++ rest) regs regs1 t rep h1 (const_acts r (pos size) t.base regs t.memory t.left)
-              (sets_follows C s (Mul Eight r j r) lp onward (goes a false o) rest regs1 (slice_set regs1 r v) t rep h2
-                  (mul_acts r j r t.base regs1 t.memory t.left ∙ ap (λ z. Does (slice_set regs1 r (wrapped W8 (z *ℤ reg_of regs1 r))) t.memory t.left []) (s1.by j lt ∙ ey) ∙ ap (λ z. Does (slice_set regs1 r (wrapped W8 (y *ℤ z))) t.memory t.left []) (set_same C r (pos size) regs long))
-                  (next (slice_set regs1 r v) (set_match C r v regs1 t le m1) (same_set r r v regs regs1 (omega arith) s1) (set_same C r v regs1 long1))))
+          (sets_follows C s (Mul Eight r j r) lp onward (goes a false o) rest regs1 (slice_set regs1 r v) t rep h2
+          (mul_acts r j r t.base regs1 t.memory t.left ∙ ap (λ z. Does (slice_set regs1 r (wrapped W8 (z *ℤ reg_of regs1 r))) t.memory t.left []) (s1.by j lt ∙ ey) ∙ ap (λ z. Does (slice_set regs1 r (wrapped W8 (y *ℤ z))) t.memory t.left []) (set_same C r (pos size) regs long))
+          (next (slice_set regs1 r v) (set_match C r v regs1 t le m1) (same_set r r v regs regs1 (omega arith) s1) (set_same C r v regs1 long1))))
 
   scaled_below : (r size j : ℕ) → j < r → scaled_in r size j ≤ r
   scaled_below r size j lt = go (size == 1)
@@ -174,15 +174,17 @@ module _ (C : Spot) where
   scaled_computes : (act : Act) (to r s size rx ry : ℕ) (x y : ℤ) (g : ℤ) (base_reg count_reg : ℕ) (count : ℤ) → many C ≤ r → base_reg < r → count_reg < r → Lies W8 count
       → ((regs : List ℤ) → reg_of regs rx ≡ x → reg_of regs ry ≡ y → reg_of regs count_reg ≡ count)
       → ((base : ℕ) (regs regs0 : List ℤ) (memory left : List ℕ) → reg_of regs0 rx ≡ x → reg_of regs0 ry ≡ y → reg_of regs base_reg ≡ reg_of regs0 base_reg → reg_of regs (scaled_in r size count_reg) ≡ values.scaled size count
-          → effect_of act base regs memory left ≡ Does (slice_set regs to g) memory left [])
+      → effect_of act base regs memory left ≡ Does (slice_set regs to g) memory left [])
       → Computes (both (scaled s r size count_reg) (does s act)) to r s rx ry x y (Ok g)
-  scaled_computes act to r s size rx ry x y g base_reg count_reg count le b_lt c_lt fit is_count so = record { by = λ lp n o rest h k regs t mt ex ey next.
-      let a : Code = scaled s r size count_reg in
-      let b : Code = does s act in
-      both_follows C a b lp n o rest regs t (k g t)
-      (scaled_follows s r size count_reg lp o (items b lp n (goes a false o) ++ rest) regs t count (k g t) (first_has C a b lp n o rest h) mt le c_lt (is_count regs ex ey) fit (λ regs1 m1 s1 e1.
-          sets_follows C s act lp n (goes a false o) rest regs1 (slice_set regs1 to g) t (k g t) (second_has C a b lp n o rest h) (so t.base regs1 regs t.memory t.left ex ey (s1.by base_reg b_lt) e1)
-          (next g regs1 refl m1 s1))) }
+  scaled_computes act to r s size rx ry x y g base_reg count_reg count le b_lt c_lt fit is_count so = record {
+    by = λ lp n o rest h k regs t mt ex ey next.
+        let a : Code = scaled s r size count_reg in
+        let b : Code = does s act in
+        both_follows C a b lp n o rest regs t (k g t)
+        (scaled_follows s r size count_reg lp o (items b lp n (goes a false o) ++ rest) regs t count (k g t) (first_has C a b lp n o rest h) mt le c_lt (is_count regs ex ey) fit (λ regs1 m1 s1 e1.
+        sets_follows C s act lp n (goes a false o) rest regs1 (slice_set regs1 to g) t (k g t) (second_has C a b lp n o rest h) (so t.base regs1 regs t.memory t.left ex ey (s1.by base_reg b_lt) e1)
+        (next g regs1 refl m1 s1)));
+  }
 
   pub operated_computes : (o : Operation) (s to r rx ry : ℕ) (x y : ℤ) → many C ≤ r → rx < r → ry < r → Lies W8 x → Lies W8 y → Computes (operated o s to r rx ry) to r s rx ry x y (values.operated o x y)
   operated_computes (op.Integer o rank) s to r rx ry x y le lx ly fx fy = one_computes (arithmetic o (size_of (ranked rank)) to rx ry) to r s rx ry x y (values.arithmetic o (ranked rank) x y) (λ base regs memory left ex ey.
@@ -192,47 +194,49 @@ module _ (C : Spot) where
   operated_computes (op.Advance size) s to r rx ry x y le lx ly fx fy =
       scaled_computes (Add Eight to rx (scaled_in r size ry)) to r s size rx ry x y (values.further x (values.scaled size y)) rx ry y le lx ly fy (λ regs ex ey. ey)
       (λ base regs regs0 memory left ex ey eb ec.
-          add_acts to rx (scaled_in r size ry) base regs memory left ∙ ap (λ z. Does (slice_set regs to (wrapped W8 (z +ℤ reg_of regs (scaled_in r size ry)))) memory left []) (eb ∙ ex) ∙ ap (λ z. Does (slice_set regs to (wrapped W8 (x +ℤ z))) memory left []) ec)
+      add_acts to rx (scaled_in r size ry) base regs memory left ∙ ap (λ z. Does (slice_set regs to (wrapped W8 (z +ℤ reg_of regs (scaled_in r size ry)))) memory left []) (eb ∙ ex) ∙ ap (λ z. Does (slice_set regs to (wrapped W8 (x +ℤ z))) memory left []) ec)
   operated_computes (op.AdvanceBy size) s to r rx ry x y le lx ly fx fy =
       scaled_computes (Add Eight to ry (scaled_in r size rx)) to r s size rx ry x y (values.further y (values.scaled size x)) ry rx x le ly lx fx (λ regs ex ey. ex)
       (λ base regs regs0 memory left ex ey eb ec.
-          add_acts to ry (scaled_in r size rx) base regs memory left ∙ ap (λ z. Does (slice_set regs to (wrapped W8 (z +ℤ reg_of regs (scaled_in r size rx)))) memory left []) (eb ∙ ey) ∙ ap (λ z. Does (slice_set regs to (wrapped W8 (y +ℤ z))) memory left []) ec)
+      add_acts to ry (scaled_in r size rx) base regs memory left ∙ ap (λ z. Does (slice_set regs to (wrapped W8 (z +ℤ reg_of regs (scaled_in r size rx)))) memory left []) (eb ∙ ey) ∙ ap (λ z. Does (slice_set regs to (wrapped W8 (y +ℤ z))) memory left []) ec)
   operated_computes (op.Retreat size) s to r rx ry x y le lx ly fx fy =
       scaled_computes (Sub Eight to rx (scaled_in r size ry)) to r s size rx ry x y (wrapped W8 (x -ℤ values.scaled size y)) rx ry y le lx ly fy (λ regs ex ey. ey)
       (λ base regs regs0 memory left ex ey eb ec.
-          sub_acts to rx (scaled_in r size ry) base regs memory left ∙ ap (λ z. Does (slice_set regs to (wrapped W8 (z -ℤ reg_of regs (scaled_in r size ry)))) memory left []) (eb ∙ ex) ∙ ap (λ z. Does (slice_set regs to (wrapped W8 (x -ℤ z))) memory left []) ec)
-  operated_computes (op.Distance size) s to r rx ry x y le lx ly fx fy = record { by = λ lp n o rest h k regs t mt ex ey next.
-      let a : Code = does s (Sub Eight r rx ry) in
-      let b : Code = does s (Const (suc r) (pos size)) in
-      let c : Code = does s (Div Eight to r (suc r)) in
-      let g = quotient W8 (wrapped W8 (x -ℤ y)) (wrapped W8 (pos size)) in
-      let h1 = first_has C a (both b c) lp n o rest h in
-      let h23 = second_has C a (both b c) lp n o rest h in
-      let h2 = first_has C b c lp n (goes a false o) rest h23 in
-      let h3 = second_has C b c lp n (goes a false o) rest h23 in
-      let v1 = wrapped W8 (x -ℤ y) in
-      let regs1 = slice_set regs r v1 in
-      let regs2 = slice_set regs1 (suc r) (pos size) in
-      let le2 : many C ≤ suc r = omega arith in
-      let in1 = target_room C s (Sub Eight r rx ry) lp onward o (items (both b c) lp n (goes a false o) ++ rest) r refl h1 in
-      let in2 = target_room C s (Const (suc r) (pos size)) lp onward (goes a false o) (items c lp n (goes b false (goes a false o)) ++ rest) (suc r) refl h2 in
-      let m1 = set_match C r v1 regs t le mt in
-      let m2 = set_match C (suc r) (pos size) regs1 t le2 m1 in
-      let long : r < length regs = let e1 = mt.room in omega (arith, e1, in1) in
-      let long1 : suc r < length regs1 = let e1 = m1.room in omega (arith, e1, in2) in
-      let ne : r ≢ suc r = omega arith in
-      let e_r : reg_of regs2 r ≡ v1 = get_or-set_other regs1 (suc r) r (pos size) (pos 0) ne ∙ set_same C r v1 regs long in
-      let same2 = same_set r (suc r) (pos size) regs regs1 (omega arith) (same_set r r v1 regs regs (omega arith) (same_all r regs)) in
-      let last = one_computes (Div Eight to r (suc r)) to r s r (suc r) v1 (pos size) g (λ base regs memory left e1 e2.
-          div_acts to r (suc r) base regs memory left ∙ ap (λ z. writes (Some to) (quotient W8 (wrapped W8 z) (wrapped W8 (reg_of regs (suc r)))) regs memory left) e1
-          ∙ ap (λ z. writes (Some to) (quotient W8 (wrapped W8 v1) (wrapped W8 z)) regs memory left) e2 ∙ ap (λ z. writes (Some to) (quotient W8 z (wrapped W8 (pos size))) regs memory left) (again (x -ℤ y))) in
-      both_follows C a (both b c) lp n o rest regs t _
-      (sets_follows C s (Sub Eight r rx ry) lp onward o _ regs regs1 t _ h1
-          (sub_acts r rx ry t.base regs t.memory t.left ∙ ap (λ z. Does (slice_set regs r (wrapped W8 (z -ℤ reg_of regs ry))) t.memory t.left []) ex ∙ ap (λ z. Does (slice_set regs r (wrapped W8 (x -ℤ z))) t.memory t.left []) ey)
-          (both_follows C b c lp n (goes a false o) rest regs1 t _
-              (sets_follows C s (Const (suc r) (pos size)) lp onward (goes a false o) _ regs1 regs2 t _ h2 (const_acts (suc r) (pos size) t.base regs1 t.memory t.left)
-                  (last.by lp n (goes b false (goes a false o)) rest h3 k regs2 t m2 e_r (set_same C (suc r) (pos size) regs1 long1)
-                      (λ v regs3 eg m3 s3. next v regs3 eg m3 (record { by = λ q lt. s3.by q lt ∙ same2.by q lt })))))) }
+      sub_acts to rx (scaled_in r size ry) base regs memory left ∙ ap (λ z. Does (slice_set regs to (wrapped W8 (z -ℤ reg_of regs (scaled_in r size ry)))) memory left []) (eb ∙ ex) ∙ ap (λ z. Does (slice_set regs to (wrapped W8 (x -ℤ z))) memory left []) ec)
+  operated_computes (op.Distance size) s to r rx ry x y le lx ly fx fy = record {
+    by = λ lp n o rest h k regs t mt ex ey next.
+        let a : Code = does s (Sub Eight r rx ry) in
+        let b : Code = does s (Const (suc r) (pos size)) in
+        let c : Code = does s (Div Eight to r (suc r)) in
+        let g = quotient W8 (wrapped W8 (x -ℤ y)) (wrapped W8 (pos size)) in
+        let h1 = first_has C a (both b c) lp n o rest h in
+        let h23 = second_has C a (both b c) lp n o rest h in
+        let h2 = first_has C b c lp n (goes a false o) rest h23 in
+        let h3 = second_has C b c lp n (goes a false o) rest h23 in
+        let v1 = wrapped W8 (x -ℤ y) in
+        let regs1 = slice_set regs r v1 in
+        let regs2 = slice_set regs1 (suc r) (pos size) in
+        let le2 : many C ≤ suc r = omega arith in
+        let in1 = target_room C s (Sub Eight r rx ry) lp onward o (items (both b c) lp n (goes a false o) ++ rest) r refl h1 in
+        let in2 = target_room C s (Const (suc r) (pos size)) lp onward (goes a false o) (items c lp n (goes b false (goes a false o)) ++ rest) (suc r) refl h2 in
+        let m1 = set_match C r v1 regs t le mt in
+        let m2 = set_match C (suc r) (pos size) regs1 t le2 m1 in
+        let long : r < length regs = let e1 = mt.room in omega (arith, e1, in1) in
+        let long1 : suc r < length regs1 = let e1 = m1.room in omega (arith, e1, in2) in
+        let ne : r ≢ suc r = omega arith in
+        let e_r : reg_of regs2 r ≡ v1 = get_or-set_other regs1 (suc r) r (pos size) (pos 0) ne ∙ set_same C r v1 regs long in
+        let same2 = same_set r (suc r) (pos size) regs regs1 (omega arith) (same_set r r v1 regs regs (omega arith) (same_all r regs)) in
+        let last = one_computes (Div Eight to r (suc r)) to r s r (suc r) v1 (pos size) g (λ base regs memory left e1 e2.
+        div_acts to r (suc r) base regs memory left ∙ ap (λ z. writes (Some to) (quotient W8 (wrapped W8 z) (wrapped W8 (reg_of regs (suc r)))) regs memory left) e1
+        ∙ ap (λ z. writes (Some to) (quotient W8 (wrapped W8 v1) (wrapped W8 z)) regs memory left) e2 ∙ ap (λ z. writes (Some to) (quotient W8 z (wrapped W8 (pos size))) regs memory left) (again (x -ℤ y))) in
+        both_follows C a (both b c) lp n o rest regs t _
+        (sets_follows C s (Sub Eight r rx ry) lp onward o _ regs regs1 t _ h1
+        (sub_acts r rx ry t.base regs t.memory t.left ∙ ap (λ z. Does (slice_set regs r (wrapped W8 (z -ℤ reg_of regs ry))) t.memory t.left []) ex ∙ ap (λ z. Does (slice_set regs r (wrapped W8 (x -ℤ z))) t.memory t.left []) ey)
+        (both_follows C b c lp n (goes a false o) rest regs1 t _
+        (sets_follows C s (Const (suc r) (pos size)) lp onward (goes a false o) _ regs1 regs2 t _ h2 (const_acts (suc r) (pos size) t.base regs1 t.memory t.left)
+        (last.by lp n (goes b false (goes a false o)) rest h3 k regs2 t m2 e_r (set_same C (suc r) (pos size) regs1 long1)
+        (λ v regs3 eg m3 s3. next v regs3 eg m3 (record { by = λ q lt. s3.by q lt ∙ same2.by q lt }))))));
+  }
 
   -- a value that is in a register, where it is wanted
   pub moved_follows : (s : ℕ) (to : Option ℕ) (j : ℕ) (lp : Loop) (n : Next) (o : Open) (rest : List Item) (regs : List ℤ) (t : e.State) (v : ℤ) (rep : Report) → Has C o (items (moved s to j) lp n o ++ rest) → reg_of regs j ≡ v

@@ -130,18 +130,22 @@ module _ (C : Spot) where
   on_as s a reg there other o rest = append_assoc (items a (record { on_break = 0; on_continue = 0 }) onward o) (Close s (branch reg there other) ∷ []) rest
 
   pub on_tests : (s : ℕ) (a : Code) (reg r : ℕ) (q : Bool) (w : Width) (m : Doing ℤ) → Puts C true a reg r q w m → Tests (on s a reg) r q m
-  on_tests s a reg r q w m g = record { by = λ there other o rest h d dc yes' no' regs t qd mt yes_does no_does.
-      let lp : Loop = record { on_break = 0; on_continue = 0 } in
-      let h1 = subst (λ is. Has C o is) (on_as s a reg there other o rest) h in
-      subst (λ is. Follows C o is regs t (m (λ v. if is_true v then yes' else no') t)) (sym (on_as s a reg there other o rest))
-      (g.by lp o (Close s (branch reg there other) ∷ rest) h1 d dc (λ v. if is_true v then yes' else no') regs t qd mt (λ v regs' u f st.
-          branches (goes a false o) s reg there other rest v yes' no' regs' u (code_has C a lp onward o (Close s (branch reg there other) ∷ rest) h1)
-          (λ in_regs. st.by regs' u in_regs (kept_all C (r + 1) regs') f.match' (λ _. refl)) (yes_does regs' u (later_of r q w d regs t v regs' u f)) (no_does regs' u (later_of r q w d regs t v regs' u f)))) }
+  on_tests s a reg r q w m g = record {
+    by = λ there other o rest h d dc yes' no' regs t qd mt yes_does no_does.
+        let lp : Loop = record { on_break = 0; on_continue = 0 } in
+        let h1 = subst (λ is. Has C o is) (on_as s a reg there other o rest) h in
+        subst (λ is. Follows C o is regs t (m (λ v. if is_true v then yes' else no') t)) (sym (on_as s a reg there other o rest))
+        (g.by lp o (Close s (branch reg there other) ∷ rest) h1 d dc (λ v. if is_true v then yes' else no') regs t qd mt (λ v regs' u f st.
+        branches (goes a false o) s reg there other rest v yes' no' regs' u (code_has C a lp onward o (Close s (branch reg there other) ∷ rest) h1)
+        (λ in_regs. st.by regs' u in_regs (kept_all C (r + 1) regs') f.match' (λ _. refl)) (yes_does regs' u (later_of r q w d regs t v regs' u f)) (no_does regs' u (later_of r q w d regs t v regs' u f))));
+  }
 
   pub settled_tests : (s r : ℕ) (v : ℤ) → Tests (settled s (is_true v)) r true (pure v)
-  settled_tests s r v = record { by = λ there other o rest h d dc yes' no' regs t qd mt yes_does no_does.
-      let l : Later r true d regs t regs t = record { budget = qd; match' = mt; kept = kept_all C r regs; still = λ _. refl } in
-      go (is_true v) there other o rest h yes' no' regs t (yes_does regs t l) (no_does regs t l) }
+  settled_tests s r v = record {
+    by = λ there other o rest h d dc yes' no' regs t qd mt yes_does no_does.
+        let l : Later r true d regs t regs t = record { budget = qd; match' = mt; kept = kept_all C r regs; still = λ _. refl } in
+        go (is_true v) there other o rest h yes' no' regs t (yes_does regs t l) (no_does regs t l);
+  }
     where
       go : (b : Bool) (there other : ℕ) (o : Open) (rest : List Item) → Has C o (Close s (Jump (if b then there else other)) ∷ rest) → (yes' no' : Step) (regs : List ℤ) (t : e.State) → Nears C there regs t (yes' t) → Nears C other regs t (no' t)
           → Follows C o (Close s (Jump (if b then there else other)) ∷ rest) regs t ((if b then yes' else no') t)
@@ -149,9 +153,11 @@ module _ (C : Spot) where
       go false there other o rest h yes' no' regs t a b = jumps C o s other rest regs t _ h b
 
   pub not_tests : (a : Test) (r : ℕ) (q : Bool) (m : Doing ℤ) → Tests a r q m → Tests (inverse a) r q (m >>= (λ x. pure (truth (not (is_true x)))))
-  not_tests a r q m g = record { by = λ there other o rest h d dc yes' no' regs t qd mt yes_does no_does.
-      subst (λ k. Follows C o (test_items a other there o ++ rest) regs t (m k t)) (fun_ext (λ x. flip (is_true x) yes' no' ∙ ap (λ z. if z then yes' else no') (sym (true_truth (not (is_true x))))))
-      (g.by other there o rest h d dc no' yes' regs t qd mt no_does yes_does) }
+  not_tests a r q m g = record {
+    by = λ there other o rest h d dc yes' no' regs t qd mt yes_does no_does.
+        subst (λ k. Follows C o (test_items a other there o ++ rest) regs t (m k t)) (fun_ext (λ x. flip (is_true x) yes' no' ∙ ap (λ z. if z then yes' else no') (sym (true_truth (not (is_true x))))))
+        (g.by other there o rest h d dc no' yes' regs t qd mt no_does yes_does);
+  }
     where
       flip : (x : Bool) (yes' no' : Step) → (if x then no' else yes') ≡ (if not x then yes' else no')
       flip true yes' no' = refl
@@ -174,16 +180,18 @@ module _ (C : Spot) where
 
   pub all_tests : (a b : Test) (empty : (o : Open) → (goes_test a o).count ≡ 0) (r : ℕ) (q q' : Bool) (m m' : Doing ℤ) → Tests a r q m → Tests b r q' m'
       → Tests (all_of a b) r (q && q') (m >>= (λ x. if is_true x then m' >>= (λ y. pure (truth (is_true y))) else pure (pos 0)))
-  all_tests a b empty r q q' m m' ga gb = record { by = λ there other o rest h d dc yes' no' regs t qd mt yes_does no_does.
-      let p = goes_test a o in
-      let h1 = subst (λ is. Has C o is) (two_as a b p.label other there other o rest) h in
-      let h2 = test_has C a p.label other o (test_items b there other p ++ rest) h1 in
-      subst (λ is. Follows C o is regs t ((m >>= (λ x. if is_true x then m' >>= (λ y. pure (truth (is_true y))) else pure (pos 0))) (λ v. if is_true v then yes' else no') t)) (sym (two_as a b p.label other there other o rest))
-      (subst (λ k. Follows C o (test_items a p.label other o ++ (test_items b there other p ++ rest)) regs t (m k t)) (fun_ext (λ x. choice (is_true x) yes' no'))
-          (ga.by p.label other o (test_items b there other p ++ rest) h1 d dc (m' (λ y. if is_true y then yes' else no')) no' regs t qd mt
-              (λ regs1 u l. nearly C.funcs C.places _ u _ (enters C p (test_items b there other p ++ rest) regs1 u _ (empty o) h2
-                  (gb.by there other p rest h2 d dc yes' no' regs1 u l.budget l.match' (λ regs2 u2 l2. yes_does regs2 u2 (later_on r q q' d regs regs1 regs2 t u u2 l l2)) (λ regs2 u2 l2. no_does regs2 u2 (later_on r q q' d regs regs1 regs2 t u u2 l l2)))))
-              (λ regs1 u l. no_does regs1 u (later_first r q q' d regs regs1 t u l)))) }
+  all_tests a b empty r q q' m m' ga gb = record {
+    by = λ there other o rest h d dc yes' no' regs t qd mt yes_does no_does.
+        let p = goes_test a o in
+        let h1 = subst (λ is. Has C o is) (two_as a b p.label other there other o rest) h in
+        let h2 = test_has C a p.label other o (test_items b there other p ++ rest) h1 in
+        subst (λ is. Follows C o is regs t ((m >>= (λ x. if is_true x then m' >>= (λ y. pure (truth (is_true y))) else pure (pos 0))) (λ v. if is_true v then yes' else no') t)) (sym (two_as a b p.label other there other o rest))
+        (subst (λ k. Follows C o (test_items a p.label other o ++ (test_items b there other p ++ rest)) regs t (m k t)) (fun_ext (λ x. choice (is_true x) yes' no'))
+        (ga.by p.label other o (test_items b there other p ++ rest) h1 d dc (m' (λ y. if is_true y then yes' else no')) no' regs t qd mt
+        (λ regs1 u l. nearly C.funcs C.places _ u _ (enters C p (test_items b there other p ++ rest) regs1 u _ (empty o) h2
+        (gb.by there other p rest h2 d dc yes' no' regs1 u l.budget l.match' (λ regs2 u2 l2. yes_does regs2 u2 (later_on r q q' d regs regs1 regs2 t u u2 l l2)) (λ regs2 u2 l2. no_does regs2 u2 (later_on r q q' d regs regs1 regs2 t u u2 l l2)))))
+        (λ regs1 u l. no_does regs1 u (later_first r q q' d regs regs1 t u l))));
+  }
     where
       choice : (x : Bool) (yes' no' : Step) → (if x then m' (λ y. if is_true y then yes' else no') else no') ≡ ((if x then m' >>= (λ y. pure (truth (is_true y))) else pure (pos 0)) (λ v. if is_true v then yes' else no'))
       choice true yes' no' = ap (λ k. m' k) (fun_ext (λ y. ap (λ z. if z then yes' else no') (sym (true_truth (is_true y)))))
@@ -191,16 +199,18 @@ module _ (C : Spot) where
 
   pub one_tests : (a b : Test) (empty : (o : Open) → (goes_test a o).count ≡ 0) (r : ℕ) (q q' : Bool) (m m' : Doing ℤ) → Tests a r q m → Tests b r q' m'
       → Tests (one_of a b) r (q && q') (m >>= (λ x. if is_true x then pure (pos 1) else m' >>= (λ y. pure (truth (is_true y)))))
-  one_tests a b empty r q q' m m' ga gb = record { by = λ there other o rest h d dc yes' no' regs t qd mt yes_does no_does.
-      let p = goes_test a o in
-      let h1 = subst (λ is. Has C o is) (two_as a b there p.label there other o rest) h in
-      let h2 = test_has C a there p.label o (test_items b there other p ++ rest) h1 in
-      subst (λ is. Follows C o is regs t ((m >>= (λ x. if is_true x then pure (pos 1) else m' >>= (λ y. pure (truth (is_true y))))) (λ v. if is_true v then yes' else no') t)) (sym (two_as a b there p.label there other o rest))
-      (subst (λ k. Follows C o (test_items a there p.label o ++ (test_items b there other p ++ rest)) regs t (m k t)) (fun_ext (λ x. choice (is_true x) yes' no'))
-          (ga.by there p.label o (test_items b there other p ++ rest) h1 d dc yes' (m' (λ y. if is_true y then yes' else no')) regs t qd mt
-              (λ regs1 u l. yes_does regs1 u (later_first r q q' d regs regs1 t u l))
-              (λ regs1 u l. nearly C.funcs C.places _ u _ (enters C p (test_items b there other p ++ rest) regs1 u _ (empty o) h2
-                  (gb.by there other p rest h2 d dc yes' no' regs1 u l.budget l.match' (λ regs2 u2 l2. yes_does regs2 u2 (later_on r q q' d regs regs1 regs2 t u u2 l l2)) (λ regs2 u2 l2. no_does regs2 u2 (later_on r q q' d regs regs1 regs2 t u u2 l l2))))))) }
+  one_tests a b empty r q q' m m' ga gb = record {
+    by = λ there other o rest h d dc yes' no' regs t qd mt yes_does no_does.
+        let p = goes_test a o in
+        let h1 = subst (λ is. Has C o is) (two_as a b there p.label there other o rest) h in
+        let h2 = test_has C a there p.label o (test_items b there other p ++ rest) h1 in
+        subst (λ is. Follows C o is regs t ((m >>= (λ x. if is_true x then pure (pos 1) else m' >>= (λ y. pure (truth (is_true y))))) (λ v. if is_true v then yes' else no') t)) (sym (two_as a b there p.label there other o rest))
+        (subst (λ k. Follows C o (test_items a there p.label o ++ (test_items b there other p ++ rest)) regs t (m k t)) (fun_ext (λ x. choice (is_true x) yes' no'))
+        (ga.by there p.label o (test_items b there other p ++ rest) h1 d dc yes' (m' (λ y. if is_true y then yes' else no')) regs t qd mt
+        (λ regs1 u l. yes_does regs1 u (later_first r q q' d regs regs1 t u l))
+        (λ regs1 u l. nearly C.funcs C.places _ u _ (enters C p (test_items b there other p ++ rest) regs1 u _ (empty o) h2
+        (gb.by there other p rest h2 d dc yes' no' regs1 u l.budget l.match' (λ regs2 u2 l2. yes_does regs2 u2 (later_on r q q' d regs regs1 regs2 t u u2 l l2)) (λ regs2 u2 l2. no_does regs2 u2 (later_on r q q' d regs regs1 regs2 t u u2 l l2)))))));
+  }
     where
       choice : (x : Bool) (yes' no' : Step) → (if x then yes' else m' (λ y. if is_true y then yes' else no')) ≡ ((if x then pure (pos 1) else m' >>= (λ y. pure (truth (is_true y)))) (λ v. if is_true v then yes' else no'))
       choice true yes' no' = refl

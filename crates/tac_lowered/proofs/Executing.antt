@@ -89,16 +89,16 @@ module _ (C : Spot) where
       let y' : Exits = record y { next = does_b y } in
       both_follows C a b x n o rest regs t (does_a y' t)
       (ea.by x onward o (items b x n (goes a false o) ++ rest) (first_has C a b x n o rest h) d dc y' (record {
-          next = λ regs2 t2 q2 m2. eb.by x n (goes a false o) rest (second_has C a b x n o rest h) d dc y (record {
-              next = to.next;
-              on_break = to.on_break;
-              on_continue = λ g. to.on_continue (or_right ga gb g);
-              on_return = to.on_return;
-            }) regs2 t2 q2 m2;
+        next = λ regs2 t2 q2 m2. eb.by x n (goes a false o) rest (second_has C a b x n o rest h) d dc y (record {
+          next = to.next;
           on_break = to.on_break;
-          on_continue = λ g. to.on_continue (or_left ga gb g);
+          on_continue = λ g. to.on_continue (or_right ga gb g);
           on_return = to.on_return;
-        }) regs t q mt))
+        }) regs2 t2 q2 m2;
+        on_break = to.on_break;
+        on_continue = λ g. to.on_continue (or_left ga gb g);
+        on_return = to.on_return;
+      }) regs t q mt))
 
   -- ---- choices
 
@@ -127,8 +127,8 @@ module _ (C : Spot) where
       let done : (regs : List ℤ) (t : e.State) → t.budget ≤ d → Match C regs t → Begins C out regs t (y.next t) = λ regs t q mt. begins_behind n b rest regs t (y.next t) (own_empty a p (empty_test c o)) h3 (to.next regs t q mt) in
       subst (λ is. Follows C o is regs t (m (λ v. if is_true v then does_a y else y.next) t)) (sym (when_as T A rest))
       (tc.by (entry a x out p.label) out o (A ++ rest) h1 d dc (does_a y) y.next regs t q mt
-          (λ regs1 u l. nearly C.funcs C.places _ u _ (ea.own x s out p rest (empty_test c o) h2 d dc y (record { next = done; on_break = to.on_break; on_continue = to.on_continue; on_return = to.on_return }) regs1 u l.budget l.match'))
-          (λ regs1 u l. nearly C.funcs C.places _ u _ (done regs1 u l.budget l.match'))))
+      (λ regs1 u l. nearly C.funcs C.places _ u _ (ea.own x s out p rest (empty_test c o) h2 d dc y (record { next = done; on_break = to.on_break; on_continue = to.on_continue; on_return = to.on_return }) regs1 u l.budget l.match'))
+      (λ regs1 u l. nearly C.funcs C.places _ u _ (done regs1 u l.budget l.match'))))
 
   pub choose_execs : (s : ℕ) (c : Test) (a b : Code) (r : ℕ) (still in_loop ga gb : Bool) (m : Doing ℤ) (does_a does_b : Exits → Step) → Tests C c r still m → Execs a in_loop ga does_a → Execs b in_loop gb does_b
       → Execs (choose s c a b) in_loop (ga || gb) (λ y. m (λ v. if is_true v then does_a y else does_b y))
@@ -149,8 +149,8 @@ module _ (C : Spot) where
       let done : (regs : List ℤ) (t : e.State) → t.budget ≤ d → Match C regs t → Begins C out regs t (y.next t) = λ regs t q mt. begins_behind n b' rest regs t (y.next t) (own_empty b p' none) h4 (to.next regs t q mt) in
       subst (λ is. Follows C o is regs t (m (λ v. if is_true v then does_a y else does_b y) t)) (sym e1)
       (tc.by (entry a x out p.label) (entry b x out p'.label) o (A ++ (B ++ rest)) h1 d dc (does_a y) (does_b y) regs t q mt
-          (λ regs1 u l. nearly C.funcs C.places _ u _ (ea.own x s out p (B ++ rest) (empty_test c o) h2 d dc y (record { next = done; on_break = to.on_break; on_continue = λ g. to.on_continue (or_left ga gb g); on_return = to.on_return }) regs1 u l.budget l.match'))
-          (λ regs1 u l. nearly C.funcs C.places _ u _ (eb.own x s out p' rest none h3 d dc y (record { next = done; on_break = to.on_break; on_continue = λ g. to.on_continue (or_right ga gb g); on_return = to.on_return }) regs1 u l.budget l.match'))))
+      (λ regs1 u l. nearly C.funcs C.places _ u _ (ea.own x s out p (B ++ rest) (empty_test c o) h2 d dc y (record { next = done; on_break = to.on_break; on_continue = λ g. to.on_continue (or_left ga gb g); on_return = to.on_return }) regs1 u l.budget l.match'))
+      (λ regs1 u l. nearly C.funcs C.places _ u _ (eb.own x s out p' rest none h3 d dc y (record { next = done; on_break = to.on_break; on_continue = λ g. to.on_continue (or_right ga gb g); on_return = to.on_return }) regs1 u l.budget l.match'))))
 
   -- ---- loops
 
@@ -168,18 +168,18 @@ module _ (C : Spot) where
   -- from a loop's head on, by what its test and a turn do
   loop_begins : (head there out : ℕ) (m last : Doing ℤ) (body : Exits → Step) (y : Exits) (d : ℕ) → d ≤ C.c
       → ((d' : ℕ) → d' ≤ d → (yes' no' : Step) (regs : List ℤ) (t : e.State) → t.budget ≤ d' → Match C regs t
-          → ((regs' : List ℤ) (u : e.State) → u.budget ≤ d' → Match C regs' u → Nears C there regs' u (yes' u)) → ((regs' : List ℤ) (u : e.State) → u.budget ≤ d' → Match C regs' u → Nears C out regs' u (no' u))
-          → Begins C head regs t (m (λ v. if is_true v then yes' else no') t))
+      → ((regs' : List ℤ) (u : e.State) → u.budget ≤ d' → Match C regs' u → Nears C there regs' u (yes' u)) → ((regs' : List ℤ) (u : e.State) → u.budget ≤ d' → Match C regs' u → Nears C out regs' u (no' u))
+      → Begins C head regs t (m (λ v. if is_true v then yes' else no') t))
       → ((d' : ℕ) → d' ≤ d → (again : Step) → ((regs : List ℤ) (t : e.State) → t.budget ≤ d' → Match C regs t → Begins C head regs t (again t))
-          → (regs : List ℤ) (t : e.State) → t.budget ≤ d' → Match C regs t → Begins C there regs t (body (record y { next = last (λ _. again); on_break = y.next; on_continue = last (λ _. again) }) t))
+      → (regs : List ℤ) (t : e.State) → t.budget ≤ d' → Match C regs t → Begins C there regs t (body (record y { next = last (λ _. again); on_break = y.next; on_continue = last (λ _. again) }) t))
       → ((regs : List ℤ) (t : e.State) → t.budget ≤ d → Match C regs t → Begins C out regs t (y.next t))
       → (k d' : ℕ) → d' ≤ d → d' < k → (regs : List ℤ) (t : e.State) → t.budget ≤ d' → Match C regs t → Begins C head regs t (loop k m last body y t)
   loop_begins head there out m last body y d dc test_at turn_at done zero d' le lt regs t q mt = let z : ⊥ = omega arith in absurd z
   loop_begins head there out m last body y d dc test_at turn_at done (suc k) d' le lt regs t q mt =
       test_at d' le (turn body (last (λ _. loop k m last body y)) y) y.next regs t q mt
       (λ regs1 u qu mu. turn_near there k d' body (last (λ _. loop k m last body y)) y regs1 u qu mu
-          (λ b lb regs2 u2 q2 m2. let le2 : b ≤ d = omega arith in let lt2 : b < k = omega arith in
-              turn_at b le2 (loop k m last body y) (λ regs3 u3 q3 m3. loop_begins head there out m last body y d dc test_at turn_at done k b le2 lt2 regs3 u3 q3 m3) regs2 u2 q2 m2))
+      (λ b lb regs2 u2 q2 m2. let le2 : b ≤ d = omega arith in let lt2 : b < k = omega arith in
+      turn_at b le2 (loop k m last body y) (λ regs3 u3 q3 m3. loop_begins head there out m last body y d dc test_at turn_at done k b le2 lt2 regs3 u3 q3 m3) regs2 u2 q2 m2))
       (λ regs1 u qu mu. let r : u.budget ≤ d = omega arith in nearly C.funcs C.places _ u _ (done regs1 u r mu))
 
   below_m : (d : ℕ) → d ≤ C.c → d < C.m
@@ -209,20 +209,20 @@ module _ (C : Spot) where
       let done : (regs : List ℤ) (t : e.State) → t.budget ≤ d → Match C regs t → Begins C out regs t (y.next t) = λ regs t q mt. begins_behind n b' rest regs t (y.next t) (own_empty b p' none) h4 (to.next regs t q mt) in
       jumps C o s head ((T ++ (A ++ B)) ++ rest) regs t (loop C.m m last body y t) h
       (nearly C.funcs C.places _ t _ (loop_begins head (entry a z step p.label) out m last body y d dc
-          (λ d' le yes' no' regs t q mt on off. let le2 : d' ≤ C.c = omega arith in
-              enters C f (T ++ (A ++ (B ++ rest))) regs t _ refl h1 (tc.by (entry a z step p.label) out f (A ++ (B ++ rest)) h1 d' le2 yes' no' regs t q mt (λ regs1 u l. on regs1 u l.budget l.match') (λ regs1 u l. off regs1 u l.budget l.match')))
-          (λ d' le again back regs t q mt.
-              let le2 : d' ≤ C.c = omega arith in
-              let ahead : (regs : List ℤ) (t : e.State) → t.budget ≤ d' → Match C regs t → Begins C step regs t (last (λ _. again) t)
-                  = λ regs t q mt. eb.own x s head p' rest none h3 d' le2 (record y { next = again }) (record { next = back; on_break = λ h. absurd (apart h); on_continue = λ h. absurd (apart h); on_return = λ v s o is p regs t here q m e f. let r : t.budget ≤ d = omega arith in to.on_return v s o is p regs t here r m e f }) regs t q mt in
-              ea.own z s step p (B ++ rest) (empty_test c f) h2 d' le2 (record y { next = last (λ _. again); on_break = y.next; on_continue = last (λ _. again) })
-              (record {
-                  next = ahead;
-                  on_break = λ h regs t q mt. let r : t.budget ≤ d = omega arith in done regs t r mt;
-                  on_continue = λ h. ahead;
-                  on_return = λ v s o is p regs t here q m e f. let r : t.budget ≤ d = omega arith in to.on_return v s o is p regs t here r m e f;
-                }) regs t q mt)
-          done C.m d (omega arith) (below_m d dc) regs t q mt)))
+      (λ d' le yes' no' regs t q mt on off. let le2 : d' ≤ C.c = omega arith in
+      enters C f (T ++ (A ++ (B ++ rest))) regs t _ refl h1 (tc.by (entry a z step p.label) out f (A ++ (B ++ rest)) h1 d' le2 yes' no' regs t q mt (λ regs1 u l. on regs1 u l.budget l.match') (λ regs1 u l. off regs1 u l.budget l.match')))
+      (λ d' le again back regs t q mt.
+      let le2 : d' ≤ C.c = omega arith in
+      let ahead : (regs : List ℤ) (t : e.State) → t.budget ≤ d' → Match C regs t → Begins C step regs t (last (λ _. again) t)
+      = λ regs t q mt. eb.own x s head p' rest none h3 d' le2 (record y { next = again }) (record { next = back; on_break = λ h. absurd (apart h); on_continue = λ h. absurd (apart h); on_return = λ v s o is p regs t here q m e f. let r : t.budget ≤ d = omega arith in to.on_return v s o is p regs t here r m e f }) regs t q mt in
+      ea.own z s step p (B ++ rest) (empty_test c f) h2 d' le2 (record y { next = last (λ _. again); on_break = y.next; on_continue = last (λ _. again) })
+      (record {
+        next = ahead;
+        on_break = λ h regs t q mt. let r : t.budget ≤ d = omega arith in done regs t r mt;
+        on_continue = λ h. ahead;
+        on_return = λ v s o is p regs t here q m e f. let r : t.budget ≤ d = omega arith in to.on_return v s o is p regs t here r m e f;
+      }) regs t q mt)
+      done C.m d (omega arith) (below_m d dc) regs t q mt)))
     where
       apart : false ≡ true → ⊥
       apart h = cc
@@ -249,19 +249,19 @@ module _ (C : Spot) where
       let done : (regs : List ℤ) (t : e.State) → t.budget ≤ d → Match C regs t → Begins C out regs t (y.next t) = λ regs t q mt. begins_behind n b' rest regs t (y.next t) (empty_behind b p') h4 (to.next regs t q mt) in
       jumps C o s head ((T ++ (A ++ B)) ++ rest) regs t (loop C.m m last body y t) h
       (nearly C.funcs C.places _ t _ (loop_begins head p.label out m last body y d dc
-          (λ d' le yes' no' regs t q mt on off. let le2 : d' ≤ C.c = omega arith in
-              enters C f (T ++ (A ++ (B ++ rest))) regs t _ refl h1 (tc.by p.label out f (A ++ (B ++ rest)) h1 d' le2 yes' no' regs t q mt (λ regs1 u l. on regs1 u l.budget l.match') (λ regs1 u l. off regs1 u l.budget l.match')))
-          (λ d' le again back regs t q mt.
-              let le2 : d' ≤ C.c = omega arith in
-              enters C p (A ++ (B ++ rest)) regs t _ (empty_test c f) h2
-              (ea.by z onward p (B ++ rest) h2 d' le2 (record y { next = last (λ _. again); on_break = y.next; on_continue = last (λ _. again) })
-              (record {
-                  next = λ regs t q mt. eb.by x (jump s head) p' rest h3 d' le2 (record y { next = again }) (record { next = back; on_break = λ h. absurd (apart h); on_continue = λ h. absurd (apart h); on_return = λ v s o is p regs t here q m e f. let r : t.budget ≤ d = omega arith in to.on_return v s o is p regs t here r m e f }) regs t q mt;
-                  on_break = λ h regs t q mt. let r : t.budget ≤ d = omega arith in done regs t r mt;
-                  on_continue = λ h. absurd (apart h);
-                  on_return = λ v s o is p regs t here q m e f. let r : t.budget ≤ d = omega arith in to.on_return v s o is p regs t here r m e f;
-                }) regs t q mt))
-          done C.m d (omega arith) (below_m d dc) regs t q mt)))
+      (λ d' le yes' no' regs t q mt on off. let le2 : d' ≤ C.c = omega arith in
+      enters C f (T ++ (A ++ (B ++ rest))) regs t _ refl h1 (tc.by p.label out f (A ++ (B ++ rest)) h1 d' le2 yes' no' regs t q mt (λ regs1 u l. on regs1 u l.budget l.match') (λ regs1 u l. off regs1 u l.budget l.match')))
+      (λ d' le again back regs t q mt.
+      let le2 : d' ≤ C.c = omega arith in
+      enters C p (A ++ (B ++ rest)) regs t _ (empty_test c f) h2
+      (ea.by z onward p (B ++ rest) h2 d' le2 (record y { next = last (λ _. again); on_break = y.next; on_continue = last (λ _. again) })
+      (record {
+        next = λ regs t q mt. eb.by x (jump s head) p' rest h3 d' le2 (record y { next = again }) (record { next = back; on_break = λ h. absurd (apart h); on_continue = λ h. absurd (apart h); on_return = λ v s o is p regs t here q m e f. let r : t.budget ≤ d = omega arith in to.on_return v s o is p regs t here r m e f }) regs t q mt;
+        on_break = λ h regs t q mt. let r : t.budget ≤ d = omega arith in done regs t r mt;
+        on_continue = λ h. absurd (apart h);
+        on_return = λ v s o is p regs t here q m e f. let r : t.budget ≤ d = omega arith in to.on_return v s o is p regs t here r m e f;
+      }) regs t q mt))
+      done C.m d (omega arith) (below_m d dc) regs t q mt)))
     where
       apart : false ≡ true → ⊥
       apart h = cc
@@ -269,18 +269,18 @@ module _ (C : Spot) where
   -- from the test behind a body on
   until_follows : (head out : ℕ) (o : Open) (js : List Item) (m : Doing ℤ) (body : Exits → Step) (y : Exits) (d : ℕ) → d ≤ C.c
       → ((d' : ℕ) → d' ≤ d → (yes' no' : Step) (regs : List ℤ) (t : e.State) → t.budget ≤ d' → Match C regs t
-          → ((regs' : List ℤ) (u : e.State) → u.budget ≤ d' → Match C regs' u → Nears C head regs' u (yes' u)) → ((regs' : List ℤ) (u : e.State) → u.budget ≤ d' → Match C regs' u → Nears C out regs' u (no' u))
-          → Follows C o js regs t (m (λ v. if is_true v then yes' else no') t))
+      → ((regs' : List ℤ) (u : e.State) → u.budget ≤ d' → Match C regs' u → Nears C head regs' u (yes' u)) → ((regs' : List ℤ) (u : e.State) → u.budget ≤ d' → Match C regs' u → Nears C out regs' u (no' u))
+      → Follows C o js regs t (m (λ v. if is_true v then yes' else no') t))
       → ((d' : ℕ) → d' ≤ d → (again : Step) → ((regs : List ℤ) (t : e.State) → t.budget ≤ d' → Match C regs t → Follows C o js regs t (again t))
-          → (regs : List ℤ) (t : e.State) → t.budget ≤ d' → Match C regs t → Begins C head regs t (body (record y { next = again; on_break = y.next; on_continue = again }) t))
+      → (regs : List ℤ) (t : e.State) → t.budget ≤ d' → Match C regs t → Begins C head regs t (body (record y { next = again; on_break = y.next; on_continue = again }) t))
       → ((regs : List ℤ) (t : e.State) → t.budget ≤ d → Match C regs t → Begins C out regs t (y.next t))
       → (k d' : ℕ) → d' ≤ d → d' < k → (regs : List ℤ) (t : e.State) → t.budget ≤ d' → Match C regs t → Follows C o js regs t (loop k m (pure (pos 0)) body y t)
   until_follows head out o js m body y d dc test_at turn_at done zero d' le lt regs t q mt = let z : ⊥ = omega arith in absurd z
   until_follows head out o js m body y d dc test_at turn_at done (suc k) d' le lt regs t q mt =
       test_at d' le (turn body (loop k m (pure (pos 0)) body y) y) y.next regs t q mt
       (λ regs1 u qu mu. turn_near head k d' body (loop k m (pure (pos 0)) body y) y regs1 u qu mu
-          (λ b lb regs2 u2 q2 m2. let le2 : b ≤ d = omega arith in let lt2 : b < k = omega arith in
-              turn_at b le2 (loop k m (pure (pos 0)) body y) (λ regs3 u3 q3 m3. until_follows head out o js m body y d dc test_at turn_at done k b le2 lt2 regs3 u3 q3 m3) regs2 u2 q2 m2))
+      (λ b lb regs2 u2 q2 m2. let le2 : b ≤ d = omega arith in let lt2 : b < k = omega arith in
+      turn_at b le2 (loop k m (pure (pos 0)) body y) (λ regs3 u3 q3 m3. until_follows head out o js m body y d dc test_at turn_at done k b le2 lt2 regs3 u3 q3 m3) regs2 u2 q2 m2))
       (λ regs1 u qu mu. let r : u.budget ≤ d = omega arith in nearly C.funcs C.places _ u _ (done regs1 u r mu))
 
   pub until_execs : (s : ℕ) (own : Bool) (a : Code) (c : Test) (r : ℕ) (still : Bool) (m : Doing ℤ) (body : Exits → Step) → Tests C c r still m → Execs a true own body
@@ -301,23 +301,23 @@ module _ (C : Spot) where
       let again = loop C.m m (pure (pos 0)) body y in
       let done : (regs : List ℤ) (t : e.State) → t.budget ≤ d → Match C regs t → Begins C out regs t (y.next t) = λ regs t q mt. begins_behind n b' rest regs t (y.next t) (empty_test c p) h3 (to.next regs t q mt) in
       let turns : (d' : ℕ) → d' ≤ d → (again : Step) → ((regs : List ℤ) (t : e.State) → t.budget ≤ d' → Match C regs t → Follows C p (T ++ rest) regs t (again t))
-          → (regs : List ℤ) (t : e.State) → t.budget ≤ d' → Match C regs t → Begins C head regs t (body (record y { next = again; on_break = y.next; on_continue = again }) t)
-          = λ d' le again back regs t q mt.
-              let le2 : d' ≤ C.c = omega arith in
-              let to_test : (regs : List ℤ) (t : e.State) → t.budget ≤ d' → Match C regs t → Begins C p.label regs t (again t) = λ regs t q mt. enters C p (T ++ rest) regs t (again t) (empty_behind a f) h2 (back regs t q mt) in
-              enters C f (A ++ (T ++ rest)) regs t _ refl h1
-              (ea.by z (jump s p.label) f (T ++ rest) h1 d' le2 (record y { next = again; on_break = y.next; on_continue = again })
-              (record {
-                  next = to_test;
-                  on_break = λ h regs t q mt. let r : t.budget ≤ d = omega arith in done regs t r mt;
-                  on_continue = λ h. to_test;
-                  on_return = λ v s o is p regs t here q m e f. let r : t.budget ≤ d = omega arith in to.on_return v s o is p regs t here r m e f;
-                }) regs t q mt) in
+      → (regs : List ℤ) (t : e.State) → t.budget ≤ d' → Match C regs t → Begins C head regs t (body (record y { next = again; on_break = y.next; on_continue = again }) t)
+      = λ d' le again back regs t q mt.
+      let le2 : d' ≤ C.c = omega arith in
+      let to_test : (regs : List ℤ) (t : e.State) → t.budget ≤ d' → Match C regs t → Begins C p.label regs t (again t) = λ regs t q mt. enters C p (T ++ rest) regs t (again t) (empty_behind a f) h2 (back regs t q mt) in
+      enters C f (A ++ (T ++ rest)) regs t _ refl h1
+      (ea.by z (jump s p.label) f (T ++ rest) h1 d' le2 (record y { next = again; on_break = y.next; on_continue = again })
+      (record {
+        next = to_test;
+        on_break = λ h regs t q mt. let r : t.budget ≤ d = omega arith in done regs t r mt;
+        on_continue = λ h. to_test;
+        on_return = λ v s o is p regs t here q m e f. let r : t.budget ≤ d = omega arith in to.on_return v s o is p regs t here r m e f;
+      }) regs t q mt) in
       jumps C o s head ((A ++ T) ++ rest) regs t (turn body again y t) h
       (turn_near head C.m d body again y regs t q mt (λ b lb regs2 u2 q2 m2. let le2 : b ≤ d = omega arith in
-          turns b le2 again (λ regs3 u3 q3 m3. until_follows head out p (T ++ rest) m body y d dc
-              (λ d' le yes' no' regs t q mt on off. let le2 : d' ≤ C.c = omega arith in tc.by head out p rest h2 d' le2 yes' no' regs t q mt (λ regs1 u l. on regs1 u l.budget l.match') (λ regs1 u l. off regs1 u l.budget l.match'))
-              turns done C.m b le2 (let e2 = below_m d dc in omega (arith, e2)) regs3 u3 q3 m3) regs2 u2 q2 m2)))
+      turns b le2 again (λ regs3 u3 q3 m3. until_follows head out p (T ++ rest) m body y d dc
+      (λ d' le yes' no' regs t q mt on off. let le2 : d' ≤ C.c = omega arith in tc.by head out p rest h2 d' le2 yes' no' regs t q mt (λ regs1 u l. on regs1 u l.budget l.match') (λ regs1 u l. off regs1 u l.budget l.match'))
+      turns done C.m b le2 (let e2 = below_m d dc in omega (arith, e2)) regs3 u3 q3 m3) regs2 u2 q2 m2)))
   until_execs s false a c r still m body tc ea in_loop = plain_execs (until s false a c) in_loop false (λ y. turn body (loop C.m m (pure (pos 0)) body y) y) refl (λ x n o rest h d dc y to regs t q mt.
       let head = suc o.label in
       let f : Open = fresh o in
@@ -334,22 +334,22 @@ module _ (C : Spot) where
       let again = loop C.m m (pure (pos 0)) body y in
       let done : (regs : List ℤ) (t : e.State) → t.budget ≤ d → Match C regs t → Begins C out regs t (y.next t) = λ regs t q mt. begins_behind n b' rest regs t (y.next t) (empty_test c p) h3 (to.next regs t q mt) in
       let turns : (d' : ℕ) → d' ≤ d → (again : Step) → ((regs : List ℤ) (t : e.State) → t.budget ≤ d' → Match C regs t → Follows C p (T ++ rest) regs t (again t))
-          → (regs : List ℤ) (t : e.State) → t.budget ≤ d' → Match C regs t → Begins C head regs t (body (record y { next = again; on_break = y.next; on_continue = again }) t)
-          = λ d' le again back regs t q mt.
-              let le2 : d' ≤ C.c = omega arith in
-              enters C f (A ++ (T ++ rest)) regs t _ refl h1
-              (ea.by z onward f (T ++ rest) h1 d' le2 (record y { next = again; on_break = y.next; on_continue = again })
-              (record {
-                  next = back;
-                  on_break = λ h regs t q mt. let r : t.budget ≤ d = omega arith in done regs t r mt;
-                  on_continue = λ h. absurd (apart h);
-                  on_return = λ v s o is p regs t here q m e f. let r : t.budget ≤ d = omega arith in to.on_return v s o is p regs t here r m e f;
-                }) regs t q mt) in
+      → (regs : List ℤ) (t : e.State) → t.budget ≤ d' → Match C regs t → Begins C head regs t (body (record y { next = again; on_break = y.next; on_continue = again }) t)
+      = λ d' le again back regs t q mt.
+      let le2 : d' ≤ C.c = omega arith in
+      enters C f (A ++ (T ++ rest)) regs t _ refl h1
+      (ea.by z onward f (T ++ rest) h1 d' le2 (record y { next = again; on_break = y.next; on_continue = again })
+      (record {
+        next = back;
+        on_break = λ h regs t q mt. let r : t.budget ≤ d = omega arith in done regs t r mt;
+        on_continue = λ h. absurd (apart h);
+        on_return = λ v s o is p regs t here q m e f. let r : t.budget ≤ d = omega arith in to.on_return v s o is p regs t here r m e f;
+      }) regs t q mt) in
       jumps C o s head ((A ++ T) ++ rest) regs t (turn body again y t) h
       (turn_near head C.m d body again y regs t q mt (λ b lb regs2 u2 q2 m2. let le2 : b ≤ d = omega arith in
-          turns b le2 again (λ regs3 u3 q3 m3. until_follows head out p (T ++ rest) m body y d dc
-              (λ d' le yes' no' regs t q mt on off. let le2 : d' ≤ C.c = omega arith in tc.by head out p rest h2 d' le2 yes' no' regs t q mt (λ regs1 u l. on regs1 u l.budget l.match') (λ regs1 u l. off regs1 u l.budget l.match'))
-              turns done C.m b le2 (let e2 = below_m d dc in omega (arith, e2)) regs3 u3 q3 m3) regs2 u2 q2 m2)))
+      turns b le2 again (λ regs3 u3 q3 m3. until_follows head out p (T ++ rest) m body y d dc
+      (λ d' le yes' no' regs t q mt on off. let le2 : d' ≤ C.c = omega arith in tc.by head out p rest h2 d' le2 yes' no' regs t q mt (λ regs1 u l. on regs1 u l.budget l.match') (λ regs1 u l. off regs1 u l.budget l.match'))
+      turns done C.m b le2 (let e2 = below_m d dc in omega (arith, e2)) regs3 u3 q3 m3) regs2 u2 q2 m2)))
     where
       apart : false ≡ true → ⊥
       apart h = cc

@@ -164,7 +164,7 @@ module _ (C : Spot) where
       let h1 = does_has s act x n o rest h in
       subst (λ is. Follows C o is regs t r) (sym (does_as s act n o rest))
       (puts C s act o (close n ++ rest) regs regs' t t' printed r h1 eq base out same
-          (nothing_follows n (after o) rest regs' t' r (behind_has C (put s act o) o (after o) (close n ++ rest) (put_runs s act o) h1) a))
+      (nothing_follows n (after o) rest regs' t' r (behind_has C (put s act o) o (after o) (close n ++ rest) (put_runs s act o) h1) a))
 
   -- that changes registers alone
   pub sets_follows : (s : ℕ) (act : Act) (x : Loop) (n : Next) (o : Open) (rest : List Item) (regs regs' : List ℤ) (t : e.State) (r : Report) → Has C o (items (does s act) x n o ++ rest)
@@ -212,12 +212,16 @@ module _ (C : Spot) where
   -- ---- operands
 
   pub gives_puts : (is_kept : Bool) (a : Code) (r : ℕ) (q : Bool) (w : Width) (m : Doing ℤ) → many C ≤ r → Gives a (Some r) r q w m → Puts is_kept a r r q w m
-  gives_puts is_kept a r q w m le g = record { by = λ x o rest h d dc k regs t qd mt next.
-      g.by x onward o rest h d dc k regs t qd mt (λ v regs' u f.
-          next v (slice_set regs' r v) u (after_set r r q w d regs t v v regs' u le (omega arith) f)
-          (record { by = λ regs3 u3 in_regs kept mt3 slots. let long : r < length regs' = let e1 = f.match'.room in omega (arith, e1) in let own : r < r + 1 = omega arith in kept.by r le own ∙ set_same r v regs' long })) }
+  gives_puts is_kept a r q w m le g = record {
+    by = λ x o rest h d dc k regs t qd mt next.
+        g.by x onward o rest h d dc k regs t qd mt (λ v regs' u f.
+        next v (slice_set regs' r v) u (after_set r r q w d regs t v v regs' u le (omega arith) f)
+        (record { by = λ regs3 u3 in_regs kept mt3 slots. let long : r < length regs' = let e1 = f.match'.room in omega (arith, e1) in let own : r < r + 1 = omega arith in kept.by r le own ∙ set_same r v regs' long }));
+  }
 
   pub slot_puts : (is_kept : Bool) (j r : ℕ) → is_kept ≡ true → j < many C → Puts is_kept nothing j r true (width_of (kind_of C j)) (get_slot j)
-  slot_puts is_kept j r held lt = record { by = λ x o rest h d dc k regs t qd mt next.
-      next (slot_of C t j) regs t (record { budget = qd; match' = mt; kept = kept_all r regs; still = λ _. refl; lies = mt.lies j lt })
-      (record { by = λ regs3 u3 in_regs kept mt3 slots. mt3.same j lt ∙ ap (λ s. slice_index_or s j (pos 0)) (slots held) }) }
+  slot_puts is_kept j r held lt = record {
+    by = λ x o rest h d dc k regs t qd mt next.
+        next (slot_of C t j) regs t (record { budget = qd; match' = mt; kept = kept_all r regs; still = λ _. refl; lies = mt.lies j lt })
+        (record { by = λ regs3 u3 in_regs kept mt3 slots. mt3.same j lt ∙ ap (λ s. slice_index_or s j (pos 0)) (slots held) });
+  }

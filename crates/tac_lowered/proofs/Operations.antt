@@ -131,20 +131,20 @@ module _ (C : Spot) where
       let rooms = room lp n o2 rest h3 in
       both_follows C a (both b c) lp n o rest regs t _
       (pa.by lp o (items (both b c) lp n o1 ++ rest) (first_has C a (both b c) lp n o rest h) d dc _ regs t qd mt (λ x regs1 u1 f1 st1.
-          both_follows C b c lp n o1 rest regs1 u1 _
-          (pb.by lp o1 (items c lp n o2 ++ rest) (first_has C b c lp n o1 rest h23) d dc _ regs1 u1 f1.budget f1.match' (λ y regs2 u2 f2 st2.
-              let ex = st1.by regs2 u2 rooms.0 f2.kept f2.match' f2.still in
-              let ey = st2.by regs2 u2 rooms.1 (kept_all C (r + 1 + 1) regs2) f2.match' (λ _. refl) in
-              (computes x y f1.lies f2.lies).by lp n o2 rest h3 k regs2 u2 f2.match' ex ey (λ z regs3 ez m3 same.
-                  let k12 = kept_on C r (r + 1) regs regs1 regs2 (omega arith) f1.kept f2.kept in
-                  let f3 : After C r (q && q') w'' d regs t z regs3 u2 = record {
-                      budget = f2.budget;
-                      match' = m3;
-                      kept = kept_on C r (r + 2) regs regs2 regs3 (omega arith) k12 (same_kept C (r + 2) regs2 regs3 same);
-                      still = λ hq. f2.still (and_second q q' hq) ∙ f1.still (and_first q q' hq);
-                      lies = lies x y z f1.lies f2.lies ez;
-                    } in
-                  wrote C to r (q && q') w'' d n (goes c (closes n) o2) rest k regs t z regs3 u2 le f3 next))))))
+      both_follows C b c lp n o1 rest regs1 u1 _
+      (pb.by lp o1 (items c lp n o2 ++ rest) (first_has C b c lp n o1 rest h23) d dc _ regs1 u1 f1.budget f1.match' (λ y regs2 u2 f2 st2.
+      let ex = st1.by regs2 u2 rooms.0 f2.kept f2.match' f2.still in
+      let ey = st2.by regs2 u2 rooms.1 (kept_all C (r + 1 + 1) regs2) f2.match' (λ _. refl) in
+      (computes x y f1.lies f2.lies).by lp n o2 rest h3 k regs2 u2 f2.match' ex ey (λ z regs3 ez m3 same.
+      let k12 = kept_on C r (r + 1) regs regs1 regs2 (omega arith) f1.kept f2.kept in
+      let f3 : After C r (q && q') w'' d regs t z regs3 u2 = record {
+        budget = f2.budget;
+        match' = m3;
+        kept = kept_on C r (r + 2) regs regs2 regs3 (omega arith) k12 (same_kept C (r + 2) regs2 regs3 same);
+        still = λ hq. f2.still (and_second q q' hq) ∙ f1.still (and_first q q' hq);
+        lies = lies x y z f1.lies f2.lies ez;
+      } in
+      wrote C to r (q && q') w'' d n (goes c (closes n) o2) rest k regs t z regs3 u2 le f3 next))))))
 
   at_below : (b : Bool) (e : Exp) (r q : ℕ) → (at b e r ≡ r) → r < q → at b e r < q
   at_below b e r q same lt = omega (arith, same)
@@ -207,11 +207,11 @@ module _ (C : Spot) where
       let done : (v : ℤ) (regs2 : List ℤ) (u2 : e.State) → After C r q' w d regs t v regs2 u2 → Begins C out (set_in regs2 to v) u2 (k v u2) = λ v regs2 u2 f. begins_behind n b' rest (set_in regs2 to v) u2 (k v u2) (own_empty b p' none) h4 (next v regs2 u2 f) in
       subst (λ is. Follows C o is regs t (m (λ v. (if is_true v then ma else mb) k) t)) (sym e1)
       (subst (λ kk. Follows C o (T ++ (A ++ (B ++ rest))) regs t (m kk t)) (fun_ext (λ v. inside (is_true v) k))
-          (tc.by (entry a x out p.label) (entry b x out p'.label) o (A ++ (B ++ rest)) h1 d dc (ma k) (mb k) regs t qd mt
-              (λ regs1 u l. nearly C.funcs C.places _ u _ (ga.own x s out p (B ++ rest) (empty_test c o) h2 d dc k regs1 u l.budget l.match' (λ v regs2 u2 f.
-                  done v regs2 u2 (weaker r (q && qa) q' wa w d regs t v regs2 u2 (λ hq. let z = less hq in and_true q qa z.0 z.1) (lies_a v) (after_later r q qa wa d regs regs1 regs2 t u u2 v l f)))))
-              (λ regs1 u l. nearly C.funcs C.places _ u _ (gb.own x s out p' rest none h3 d dc k regs1 u l.budget l.match' (λ v regs2 u2 f.
-                  done v regs2 u2 (weaker r (q && qb) q' wb w d regs t v regs2 u2 (λ hq. let z = less hq in and_true q qb z.0 z.2) (lies_b v) (after_later r q qb wb d regs regs1 regs2 t u u2 v l f))))))))
+      (tc.by (entry a x out p.label) (entry b x out p'.label) o (A ++ (B ++ rest)) h1 d dc (ma k) (mb k) regs t qd mt
+      (λ regs1 u l. nearly C.funcs C.places _ u _ (ga.own x s out p (B ++ rest) (empty_test c o) h2 d dc k regs1 u l.budget l.match' (λ v regs2 u2 f.
+      done v regs2 u2 (weaker r (q && qa) q' wa w d regs t v regs2 u2 (λ hq. let z = less hq in and_true q qa z.0 z.1) (lies_a v) (after_later r q qa wa d regs regs1 regs2 t u u2 v l f)))))
+      (λ regs1 u l. nearly C.funcs C.places _ u _ (gb.own x s out p' rest none h3 d dc k regs1 u l.budget l.match' (λ v regs2 u2 f.
+      done v regs2 u2 (weaker r (q && qb) q' wb w d regs t v regs2 u2 (λ hq. let z = less hq in and_true q qb z.0 z.2) (lies_b v) (after_later r q qb wb d regs regs1 regs2 t u u2 v l f))))))))
     where
       inside : (x : Bool) (k : ℤ → Step) → (if x then ma k else mb k) ≡ (if x then ma else mb) k
       inside true k = refl

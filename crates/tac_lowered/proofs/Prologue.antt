@@ -139,7 +139,7 @@ module _ (C : Spot) where
   stores_all frame (q ∷ qs) (v ∷ vs) r free homes suit le room lp o rest h regs t rep mt arrived small next =
       both_follows C first others lp onward o rest regs t rep
       (one q.home homes.0 lp o (items others lp onward (goes first false o) ++ rest) (first_has C first others lp onward o rest h) regs t mt arrived.0 arrived.1 small (λ regs1 m1 a1.
-          stores_all frame qs vs (r + 1) free homes.2 suit.1 (omega arith) (omega arith) lp (goes first false o) rest (second_has C first others lp onward o rest h) regs1 (record t { memory = set_in_frame t.base q.ty q.home v t.memory }) rep m1 a1 small next))
+      stores_all frame qs vs (r + 1) free homes.2 suit.1 (omega arith) (omega arith) lp (goes first false o) rest (second_has C first others lp onward o rest h) regs1 (record t { memory = set_in_frame t.base q.ty q.home v t.memory }) rep m1 a1 small next))
     where
       first : Code
       first = low.stored C.p q.ty q.home r free
@@ -155,8 +155,8 @@ module _ (C : Spot) where
       one (hm.Frame offset) has lp o rest h regs t mt at later small next =
           both_follows C a b lp onward o rest regs t rep
           (sets_follows C n (FrameAddress free (pos offset)) lp onward o (items b lp onward (goes a false o) ++ rest) regs regs1 t rep h1 (frame_acts free offset t.base regs t.memory t.left)
-              (does_follows C n (Store w free (pos 0) r) lp onward (goes a false o) rest regs1 regs1 t t' [] rep h2 effect refl (sym (append-nil t.out)) refl
-                  (next regs1 m1' (arrived_set qs vs (r + 1) free address regs (omega arith) later))))
+          (does_follows C n (Store w free (pos 0) r) lp onward (goes a false o) rest regs1 regs1 t t' [] rep h2 effect refl (sym (append-nil t.out)) refl
+          (next regs1 m1' (arrived_set qs vs (r + 1) free address regs (omega arith) later))))
         where
           n : ℕ
           n = nowhere C.p

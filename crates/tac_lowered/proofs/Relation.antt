@@ -48,8 +48,13 @@ module _ (funcs : List TacFunc) (places : List Place) where
 
   -- a step that prints
   pub steps : (S S' : State) (t t' : e.State) (printed : List ℕ) (o : Report) → tac_step funcs places S t.left ≡ m.Goes S' t'.left printed → t'.out ≡ t.out ++ printed → t'.budget ≡ t.budget → Nearly S' t' o → Reaches S t o
-  steps S S' t t' printed o eq out same r = record { by = (suc r.by.0,
-      ap (λ x. m.continue (m.run (tac_step funcs places) r.by.0) x t.out) eq ∙ ap (λ out. m.run (tac_step funcs places) r.by.0 S' t'.left out) (sym out) ∙ r.by.1, λ h. omega (arith, r.by.2 h, same)) }
+  steps S S' t t' printed o eq out same r = record {
+    by = (
+      suc r.by.0,
+      ap (λ x. m.continue (m.run (tac_step funcs places) r.by.0) x t.out) eq ∙ ap (λ out. m.run (tac_step funcs places) r.by.0 S' t'.left out) (sym out) ∙ r.by.1,
+      λ h. omega (arith, r.by.2 h, same),
+    );
+  }
 
   pub silent : (S S' : State) (t : e.State) (o : Report) → tac_step funcs places S t.left ≡ m.Goes S' t.left [] → Nearly S' t o → Reaches S t o
   silent S S' t o eq r = steps S S' t t [] o eq (sym (append-nil t.out)) refl r
@@ -252,9 +257,14 @@ module _ (C : Spot) where
       go false h a = acts o s act rest regs regs' t t' printed x eq base out same a
 
   fails : (o : Open) (s : ℕ) (act : Act) (is : List Item) (regs : List ℤ) (t : e.State) (kind : FaultKind) → effect_of act t.base regs t.memory t.left ≡ Fails kind → Follows o (Do s act ∷ is) regs t (e.fault (typed.place_of C.p s) kind t)
-  fails o s act is regs t kind eq = record { by = (1,
+  fails o s act is regs t kind eq = record {
+    by = (
+      1,
       ap (λ x. m.continue (m.run (tac_step C.funcs C.places) 0) (after_act x (place_of C.places s) (record { func = C.f; label = o.label; base = t.base; regs = regs; ops = ops_of (Do s act ∷ is) }) (ops_of is) C.waiting t.left) t.out) eq
-      ∙ ap (λ out. Over (Faulted (place_of C.places s) kind) out t.left) (append-nil t.out) ∙ ap (λ x. Over (Faulted x kind) t.out t.left) (sym (C.stands s)), λ h. absurd h) }
+          ∙ ap (λ out. Over (Faulted (place_of C.places s) kind) out t.left) (append-nil t.out) ∙ ap (λ x. Over (Faulted x kind) t.out t.left) (sym (C.stands s)),
+      λ h. absurd h,
+    );
+  }
 
   pub faults_at : (s : ℕ) (act : Act) (o : Open) (rest : List Item) (regs : List ℤ) (t : e.State) (kind : FaultKind) → Has o (put s act o ++ rest)
       → effect_of act t.base regs t.memory t.left ≡ Fails kind → Follows o (put s act o ++ rest) regs t (e.fault (typed.place_of C.p s) kind t)

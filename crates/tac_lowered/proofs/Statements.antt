@@ -112,8 +112,8 @@ module _ (C : Spot) (lowers : (a : Exp) → KeepsExp C.p C.kinds a → Lowers C 
       let in_regs : reg < C.F.regs = let e1 = h2.room in omega (arith, e1) in
       both_follows C A L x n o rest regs t _
       (((lowers a keeps.0).puts true s C.free here).by x o (items L x n (goes A false o) ++ rest) (first_has C A L x n o rest h) d dc y.on_return regs t q mt (λ v regs1 u f st.
-          to.on_return v s (goes A false o) rest (Some reg) regs1 u h2 f.budget f.match' (st.by regs1 u in_regs (kept_all C (C.free + 1) regs1) f.match' (λ _. refl))
-          (wider (told a) (width_of C.result) v (no_loss (told a) (width_of C.result) keeps.1) (wider (width_in a) (told a) v (told_in C.p C.kinds a keeps.0) f.lies)))))
+      to.on_return v s (goes A false o) rest (Some reg) regs1 u h2 f.budget f.match' (st.by regs1 u in_regs (kept_all C (C.free + 1) regs1) f.match' (λ _. refl))
+      (wider (told a) (width_of C.result) v (no_loss (told a) (width_of C.result) keeps.1) (wider (width_in a) (told a) v (told_in C.p C.kinds a keeps.0) f.lies)))))
     where
       A : Code
       A = held true a (low C.p a s (Some C.free) C.free)
@@ -152,7 +152,7 @@ module _ (C : Spot) (lowers : (a : Exp) → KeepsExp C.p C.kinds a → Lowers C 
         both_execs C (effects C.p all s C.free) (repeat s (goes_on b) (test_part C.p a s C.free) (low_stm C.p b C.free) (low C.p c s None C.free)) in_loop false false (λ y. evals C.p C.call C.m all (typed.place_of C.p s) (λ _. y.next))
         (loop C.m (part C.p C.call C.m (pos 1) a (typed.place_of C.p s)) (ev C c s) (exec C.p C.call C.m b)) (effects_execs all s in_loop h.0)
         (repeats s (goes_on b) (test_part C.p a s C.free) (low_stm C.p b C.free) (low C.p c s None C.free) tc.0 (part C.p C.call C.m (pos 1) a (typed.place_of C.p s)) (ev C c s) (exec C.p C.call C.m b) tc.1 (exec_does b true h.3)
-            (effect_execs (low C.p c s None C.free) C.free (is_quiet c) (width_in c) (ev C c s) false ((lowers c h.2).gives s None C.free here)) in_loop)
+        (effect_execs (low C.p c s None C.free) C.free (is_quiet c) (width_in c) (ev C c s) false ((lowers c h.2).gives s None C.free here)) in_loop)
     exec_does (t.break s) in_loop h = subst (λ z. Execs C (low_stm C.p (t.break s) C.free) z false (exec C.p C.call C.m (t.break s))) (sym h) (break_execs C s false)
     exec_does (t.continue s) in_loop h = continue_execs C s in_loop
     exec_does (t.return s a) in_loop h = return_execs a s in_loop h

@@ -74,10 +74,10 @@ module _ (C : Spot) where
       let h2 = second_has C a (does s act) x n o rest h in
       both_follows C a (does s act) x n o rest regs t _
       (pa.by x o (items (does s act) x n (goes a false o) ++ rest) (first_has C a (does s act) x n o rest h) d dc (λ v. f v k) regs t qd mt (λ v regs1 u b st.
-          let reg_is = st.by regs1 u (first_room C s act x n (goes a false o) rest reg source h2) (kept_all C (r + 1) regs1) b.match' (λ _. refl) in
-          subst (λ rep. Follows C (goes a false o) (items (does s act) x n (goes a false o) ++ rest) regs1 u rep) (sym (means v k u b.lies))
-          (result_follows s act x n (goes a false o) rest (or_else to r) k regs1 u (g v u) h2 (so v regs1 u reg_is b.lies)
-              (λ z ez. wrote C to r q w' d n (goes (does s act) (closes n) (goes a false o)) rest k regs t z regs1 u le (after_lies r q w w' d regs t v z regs1 u b (lies v u z b.lies ez)) next)))))
+      let reg_is = st.by regs1 u (first_room C s act x n (goes a false o) rest reg source h2) (kept_all C (r + 1) regs1) b.match' (λ _. refl) in
+      subst (λ rep. Follows C (goes a false o) (items (does s act) x n (goes a false o) ++ rest) regs1 u rep) (sym (means v k u b.lies))
+      (result_follows s act x n (goes a false o) rest (or_else to r) k regs1 u (g v u) h2 (so v regs1 u reg_is b.lies)
+      (λ z ez. wrote C to r q w' d n (goes (does s act) (closes n) (goes a false o)) rest k regs t z regs1 u le (after_lies r q w w' d regs t v z regs1 u b (lies v u z b.lies ez)) next)))))
 
   -- a value that is taken as another
   pub as_gives : (a : Code) (to : Option ℕ) (r : ℕ) (q : Bool) (w w' : Width) (m : Doing ℤ) (g : ℤ → ℤ) → ((x : ℤ) → Lies w x → (g x ≡ x) × Lies w' x) → Gives C a to r q w m → Gives C a to r q w' (m >>= (λ x. pure (g x)))
@@ -202,9 +202,9 @@ module _ (C : Spot) where
       let w = width_of ty in
       op_gives (held true a (low C.p a s (Some r) r)) (at true a r) (Load w (or_else to r) (at true a r) (pos 0)) to s r (is_quiet a) (width_in a) w (ev C a s) (λ x u. read_as w (loaded u.memory x (size_of ty))) (λ x. load (typed.place_of C.p s) ty x) (up C r le) (la.puts true s r le) refl
       (λ x regs u ex l. load_acts w (or_else to r) (at true a r) u.base regs u.memory u.left
-          ∙ ap (λ z. writes (Some (or_else to r)) (read_as w (loaded u.memory (acts.address z (pos 0)) (bytes_in w))) regs u.memory u.left) ex
-          ∙ ap (λ z. writes (Some (or_else to r)) (read_as w (loaded u.memory z (bytes_in w))) regs u.memory u.left) (own_address x (in_eight (width_in a) x l))
-          ∙ ap (λ z. writes (Some (or_else to r)) (read_as w (loaded u.memory x z)) regs u.memory u.left) (bytes_same ty value))
+      ∙ ap (λ z. writes (Some (or_else to r)) (read_as w (loaded u.memory (acts.address z (pos 0)) (bytes_in w))) regs u.memory u.left) ex
+      ∙ ap (λ z. writes (Some (or_else to r)) (read_as w (loaded u.memory z (bytes_in w))) regs u.memory u.left) (own_address x (in_eight (width_in a) x l))
+      ∙ ap (λ z. writes (Some (or_else to r)) (read_as w (loaded u.memory x z)) regs u.memory u.left) (bytes_same ty value))
       (λ x k u l. load_as ty (typed.place_of C.p s) k u (loaded u.memory x (size_of ty)))
       (λ x u z l h. read_lies w (loaded u.memory x (size_of ty)) z h))
 
@@ -245,19 +245,19 @@ module _ (C : Spot) where
       let A = low C.p a s (Some j) r in
       let ga = la.gives s (Some j) r le in
       plain_gives C (both A (moved s to j)) to r false (width_of ty) (ev C a s >>= (λ v. set_slot j v)) refl (λ x n o rest h d dc k regs t qd mt next.
-          let h2 = second_has C A (moved s to j) x n o rest h in
-          both_follows C A (moved s to j) x n o rest regs t _
-          (ga.by x onward o (items (moved s to j) x n (goes A false o) ++ rest) (first_has C A (moved s to j) x n o rest h) d dc (λ v. set_slot j v k) regs t qd mt (λ v regs1 u b.
-              let u2 : e.State = record u { slots = slice_set u.slots j v } in
-              let in_regs : j < C.F.regs = let e1 = free_room C (goes A false o) _ h2 in let e2 = C.enough in omega (arith, e1, e2) in
-              let lv = wider (width_in a) (width_of ty) v whole b.lies in
-              let lk = subst (λ z. Lies (width_of z) v) (sym kind) lv in
-              let m2 = slot_match C j v regs1 u lt in_regs lk b.match' in
-              let long : j < length regs1 = let e1 = b.match'.room in omega (arith, e1, in_regs) in
-              let regs2 = slice_set regs1 j v in
-              let after' : After C r false (width_of ty) d regs t v regs2 u2 = record { budget = b.budget; match' = m2; kept = record { by = λ q ge lq. set_other regs1 j q v ge lt ∙ b.kept.by q ge lq }; still = λ h. absurd (apart h); lies = lv } in
-              let f = moved_follows C s to j x n (goes A false o) rest regs2 u2 v (k v u2) h2 (set_same C j v regs1 long) (next v regs2 u2 after') in
-              record { by = f.by }))))
+      let h2 = second_has C A (moved s to j) x n o rest h in
+      both_follows C A (moved s to j) x n o rest regs t _
+      (ga.by x onward o (items (moved s to j) x n (goes A false o) ++ rest) (first_has C A (moved s to j) x n o rest h) d dc (λ v. set_slot j v k) regs t qd mt (λ v regs1 u b.
+      let u2 : e.State = record u { slots = slice_set u.slots j v } in
+      let in_regs : j < C.F.regs = let e1 = free_room C (goes A false o) _ h2 in let e2 = C.enough in omega (arith, e1, e2) in
+      let lv = wider (width_in a) (width_of ty) v whole b.lies in
+      let lk = subst (λ z. Lies (width_of z) v) (sym kind) lv in
+      let m2 = slot_match C j v regs1 u lt in_regs lk b.match' in
+      let long : j < length regs1 = let e1 = b.match'.room in omega (arith, e1, in_regs) in
+      let regs2 = slice_set regs1 j v in
+      let after' : After C r false (width_of ty) d regs t v regs2 u2 = record { budget = b.budget; match' = m2; kept = record { by = λ q ge lq. set_other regs1 j q v ge lt ∙ b.kept.by q ge lq }; still = λ h. absurd (apart h); lies = lv } in
+      let f = moved_follows C s to j x n (goes A false o) rest regs2 u2 v (k v u2) h2 (set_same C j v regs1 long) (next v regs2 u2 after') in
+      record { by = f.by }))))
     where
       apart : false ≡ true → ⊥
       apart h = cc

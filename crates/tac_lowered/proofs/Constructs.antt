@@ -221,7 +221,7 @@ module _ (C : Spot) where
   abbrev pub GivesOf : Exp → Type 0
   GivesOf a = (s : ℕ) (to : Option ℕ) (r : ℕ) → C.free ≤ r → Gives C (low C.p a s to r) to r (is_quiet a) (width_in a) (ev a s)
 
-  no_slot_puts : (a : Exp) → is_slot a ≡ false → GivesOf a → (is_kept : Bool) (s r : ℕ) → C.free ≤ r → Puts C is_kept (held is_kept a (low C.p a s (Some r) r)) (at is_kept a r) r (is_quiet a) (width_in a) (ev a s)
+  pub no_slot_puts : (a : Exp) → is_slot a ≡ false → GivesOf a → (is_kept : Bool) (s r : ℕ) → C.free ≤ r → Puts C is_kept (held is_kept a (low C.p a s (Some r) r)) (at is_kept a r) r (is_quiet a) (width_in a) (ev a s)
   no_slot_puts a none g is_kept s r le =
       subst (λ code. Puts C is_kept code (at is_kept a r) r (is_quiet a) (width_in a) (ev a s)) (sym (held_plain is_kept a (low C.p a s (Some r) r) none))
       (subst (λ reg. Puts C is_kept (low C.p a s (Some r) r) reg r (is_quiet a) (width_in a) (ev a s)) (sym (at_plain is_kept a r none)) (gives_puts C is_kept (low C.p a s (Some r) r) r (is_quiet a) (width_in a) (ev a s) (up r le) (g s (Some r) r le)))

@@ -1,5 +1,6 @@
 pub mod Agreeing
 pub mod Calls
+pub mod Choosing
 pub mod Computing
 pub mod Constructs
 pub mod Entry

@@ -168,14 +168,14 @@ module _ (C : Spot) where
 
   -- ---- choices
 
-  own_has : (a : Code) (x : Loop) (s l : ℕ) (p : Open) (rest : List Item) → Has C p (own_items a (items a x (jump s l) p) ++ rest) → Has C (owned a p (goes a true p)) rest
+  pub own_has : (a : Code) (x : Loop) (s l : ℕ) (p : Open) (rest : List Item) → Has C p (own_items a (items a x (jump s l) p) ++ rest) → Has C (owned a p (goes a true p)) rest
   own_has a x s l p rest h = behind_has C (own_items a (items a x (jump s l) p)) p (owned a p (goes a true p)) rest (own_runs a (items a x (jump s l) p) p (goes a true p) (runs a x (jump s l) p)) h
 
-  begins_behind : (n : Next) (o : Open) (rest : List Item) (regs : List ℤ) (t : e.State) (r : _) → o.count ≡ 0 → Has C o rest → Behind C n o rest regs t r → Begins C (label_of n o.label) regs t r
+  pub begins_behind : (n : Next) (o : Open) (rest : List Item) (regs : List ℤ) (t : e.State) (r : _) → o.count ≡ 0 → Has C o rest → Behind C n o rest regs t r → Begins C (label_of n o.label) regs t r
   begins_behind onward o rest regs t r none h a = enters C o rest regs t r none h a
   begins_behind (jump s l) o rest regs t r none h a = a
 
-  after_later : (r : ℕ) (q q' : Bool) (w : Width) (d : ℕ) (regs regs1 regs2 : List ℤ) (t u1 u2 : e.State) (v : ℤ) → Later C r q d regs t regs1 u1 → After C r q' w d regs1 u1 v regs2 u2 → After C r (q && q') w d regs t v regs2 u2
+  pub after_later : (r : ℕ) (q q' : Bool) (w : Width) (d : ℕ) (regs regs1 regs2 : List ℤ) (t u1 u2 : e.State) (v : ℤ) → Later C r q d regs t regs1 u1 → After C r q' w d regs1 u1 v regs2 u2 → After C r (q && q') w d regs t v regs2 u2
   after_later r q q' w d regs regs1 regs2 t u1 u2 v l a = record {
     budget = a.budget;
     match' = a.match';
@@ -184,7 +184,7 @@ module _ (C : Spot) where
     lies = a.lies;
   }
 
-  weaker : (r : ℕ) (q q' : Bool) (w w' : Width) (d : ℕ) (regs : List ℤ) (t : e.State) (v : ℤ) (regs' : List ℤ) (u : e.State) → (q' ≡ true → q ≡ true) → (Lies w v → Lies w' v) → After C r q w d regs t v regs' u → After C r q' w' d regs t v regs' u
+  pub weaker : (r : ℕ) (q q' : Bool) (w w' : Width) (d : ℕ) (regs : List ℤ) (t : e.State) (v : ℤ) (regs' : List ℤ) (u : e.State) → (q' ≡ true → q ≡ true) → (Lies w v → Lies w' v) → After C r q w d regs t v regs' u → After C r q' w' d regs t v regs' u
   weaker r q q' w w' d regs t v regs' u less lies a = record { budget = a.budget; match' = a.match'; kept = a.kept; still = λ h. a.still (less h); lies = lies a.lies }
 
   pub choose_gives : (s : ℕ) (c : Test) (a b : Code) (to : Option ℕ) (r : ℕ) (q qa qb q' : Bool) (w wa wb : Width) (m ma mb : Doing ℤ) → Tests C c r q m → Gives C a to r qa wa ma → Gives C b to r qb wb mb

@@ -99,13 +99,13 @@ module _ (C : Spot) where
 
   -- ---- constants and slots
 
-  nothing_gives : (r : ℕ) (w : Width) (v : ℤ) → Lies w v → Gives C nothing None r true w (pure v)
+  pub nothing_gives : (r : ℕ) (w : Width) (v : ℤ) → Lies w v → Gives C nothing None r true w (pure v)
   nothing_gives r w v fit = record {
     by = λ x n o rest h d dc k regs t qd mt next. nothing_follows C n o rest regs t (k v t) h (next v regs t (record { budget = qd; match' = mt; kept = kept_all C r regs; still = λ _. refl; lies = fit }));
     own = λ x s l o rest none h d dc k regs t qd mt next. next v regs t (record { budget = qd; match' = mt; kept = kept_all C r regs; still = λ _. refl; lies = fit });
   }
 
-  const_gives : (s to r : ℕ) (w : Width) (v : ℤ) → Lies w v → Gives C (does s (Const to v)) (Some to) r true w (pure v)
+  pub const_gives : (s to r : ℕ) (w : Width) (v : ℤ) → Lies w v → Gives C (does s (Const to v)) (Some to) r true w (pure v)
   const_gives s to r w v l = plain_gives C (does s (Const to v)) (Some to) r true w (pure v) refl (λ x n o rest h d dc k regs t qd mt next.
       sets_follows C s (Const to v) x n o rest regs (slice_set regs to v) t (k v t) h (const_acts to v t.base regs t.memory t.left) (next v regs t (record { budget = qd; match' = mt; kept = kept_all C r regs; still = λ _. refl; lies = l })))
 

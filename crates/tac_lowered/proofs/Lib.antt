@@ -1,0 +1,16 @@
+pub mod Agreeing
+pub mod Calls
+pub mod Choosing
+pub mod Computing
+pub mod Constructs
+pub mod Entry
+pub mod Executing
+pub mod Geometry
+pub mod Gives
+pub mod Operations
+pub mod Prologue
+pub mod Relation
+pub mod Statements
+pub mod Values
+pub mod Widths
+pub mod Worked

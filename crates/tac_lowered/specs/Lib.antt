@@ -1,0 +1,7 @@
+pub mod Code
+pub mod Expressions
+pub mod Items
+pub mod Lowered
+pub mod Operators
+pub mod Sound
+pub mod Statements

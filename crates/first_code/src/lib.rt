@@ -4,7 +4,5 @@
 mod maker;
 mod making;
 mod operand;
-#[cfg(test)]
-mod tests;
 
 pub use making::make;

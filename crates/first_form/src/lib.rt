@@ -8,8 +8,6 @@ mod piece;
 mod program;
 mod reader;
 mod source;
-#[cfg(test)]
-mod tests;
 
 pub use error::ReadErr;
 pub use program::{Addend, Factor, Multiplier, Program, Stmt, Sum, SumOp, Term, TermOp};

@@ -3,8 +3,6 @@
 
 mod machine;
 mod machines;
-#[cfg(test)]
-mod tests;
 
 pub use machine::{Machine, OpClass};
 pub use machines::{Eight, Four, Narrow};

@@ -8,8 +8,6 @@ mod copied;
 mod copies;
 mod count;
 mod counts;
-#[cfg(test)]
-mod cover_tests;
 mod edges;
 mod formed;
 mod index;
@@ -21,8 +19,6 @@ mod program;
 mod regs;
 mod rules;
 mod shape;
-#[cfg(test)]
-mod tests;
 
 pub use chain::{Chain, Traces};
 pub use code::{Block, End, TacFunc, TacOp};
@@ -32,6 +28,7 @@ pub use edges::{Edge, find_edge, has_edge};
 pub use formed::Formed;
 pub use ib_act::{Act, Size};
 pub use index::number_at;
+pub use labels::labels_of;
 pub use live::Live;
 pub use program::TacProgram;
 pub use regs::Regs;

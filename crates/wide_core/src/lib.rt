@@ -8,8 +8,6 @@ mod rule;
 mod rules;
 mod seen;
 mod tags;
-#[cfg(test)]
-mod tests;
 mod valid;
 mod valid_funcs;
 mod wide_code;

@@ -2,7 +2,7 @@ use Rattle.std.proofs.Common.{ap, map, ◌∙◌}
 use Rattle.tac_core.specs.Cover.{CopiedProgram}
 use Rattle.tac_core.specs.Traces.{apart}
 use Rattle.tac_core.proofs.Apart.{copy_formed}
-use Rattle.tac_core.proofs.cover_tests.formed_apart.Goals as goal
+use Rattle.code_tests.proofs.covers.formed_apart.Goals as goal
 
 pub keep-requires : goal.keep-requires
 keep-requires c =

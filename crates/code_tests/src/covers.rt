@@ -2,12 +2,10 @@
 ghost use Rattle.std.specs.Prelude.{◌≡◌, IfOk, map};
 ghost use Rattle.tac_core.specs.Traces.{apart};
 
-use crate::labels::labels_of;
-use crate::tests::branching;
-use crate::{Chain, Copied, Formed, TacProgram, Traces};
+use crate::three_address::branching;
 use sqlite_items::Items;
 use std::alloc::{AllocError, Global};
-use std::test::Fail;
+use tac_core::{Chain, Copied, Formed, TacProgram, Traces, labels_of};
 
 fn copied_twice(alloc: Global, tac: &TacProgram) -> Result<Copied, AllocError>
     ensures { IfOk result (λ copied. copied.from ≡ tac.now) }
@@ -46,39 +44,23 @@ fn formed_apart(alloc: Global, tac: &TacProgram) -> Result<Formed, AllocError> {
     Ok(Formed::keep(copied, traces))
 }
 
-#[test]
-fn copies_a_copy(rt: HostRuntime) -> Result<(), Fail> {
-    let tac = branching(rt.alloc(), 2, 2)?.ok_or("valid")?;
-    let copied = copied_twice(rt.alloc(), &tac)?;
-    assert_eq!(rt; copied.tac().ops(), 4);
-    assert_eq!(rt; copied.origin(0, 2), Some(2));
-    assert_eq!(rt; copied.origin(0, 3), None);
-    Ok(())
-}
-
-/// How many chains a function has.
-fn chain_count(formed: &Formed, func: u32) -> Option<usize> {
-    let chains = formed.traces().chains(func)?;
-    Some(chains.len())
-}
-
-/// How long the last chain of a function is.
-fn last_length(formed: &Formed, func: u32) -> Option<usize> {
-    let chain = formed.traces().chains(func)?.last()?;
-    Some(chain.list().len())
-}
-
-fn op_count(formed: &Formed) -> u64 {
-    formed.copied().tac().ops()
+/// The operations of a copy of a copy, the origins of its last block and of none, and how many
+/// chains its function has where each block is one.
+fn copies(alloc: Global) -> Result<Option<(u64, [Option<u32>; 2], Option<usize>)>, AllocError> {
+    let Some(tac) = branching(alloc, 2, 2)? else {
+        return Ok(None);
+    };
+    let copied = copied_twice(alloc, &tac)?;
+    let formed = formed_apart(alloc, &tac)?;
+    Ok(Some((
+        copied.tac().ops(),
+        [copied.origin(0, 2), copied.origin(0, 3)],
+        formed.traces().chains(0).map(|chains| chains.len()),
+    )))
 }
 
 #[test]
-fn forms_chains_of_one_block(rt: HostRuntime) -> Result<(), Fail> {
-    let tac = branching(rt.alloc(), 2, 2)?.ok_or("valid")?;
-    let formed = formed_apart(rt.alloc(), &tac)?;
-    assert_eq!(rt; op_count(&formed), 4);
-    assert_eq!(rt; chain_count(&formed, 0), Some(3));
-    assert_eq!(rt; chain_count(&formed, 1), None);
-    assert_eq!(rt; last_length(&formed, 0), Some(1));
-    Ok(())
+fn copies_are_copied_and_cut_into_chains(rt: HostRuntime) {
+    let want = (4, [Some(2), None], Some(3));
+    assert_eq!(rt; copies(rt.alloc()), Ok(Some(want)));
 }

@@ -1,11 +1,10 @@
-use crate::{
-    Act, Block, Chain, Copied, Counts, End, Live, Regs, Size, TacFunc, TacOp, TacProgram, Traces,
-};
 use ib_base::{Place, Text, Width};
 use smallvec::SmallVec;
 use sqlite_items::Items;
 use std::alloc::{AllocError, Global};
-use std::test::Fail;
+use tac_core::{
+    Act, Block, Chain, Counts, End, Live, Regs, Size, TacFunc, TacOp, TacProgram, Traces,
+};
 
 /// The image's bytes, the second function and the frame of `main`.
 #[derive(Clone, Copy)]
@@ -298,103 +297,99 @@ fn wrong_ends(row: u32) -> Ends {
     }
 }
 
-#[test]
-fn refuses_wrong_functions(rt: HostRuntime) -> Result<(), Fail> {
+/// The first row of the three tables that is taken.
+fn first_taken(alloc: Global) -> Result<Option<(&'static str, u32)>, AllocError> {
     for row in 0..11 {
-        let valid = is_valid(rt.alloc(), &wrong_shape(row), &CODE, &ENDS)?;
-        assert!(rt; !valid, "row {row}");
+        if is_valid(alloc, &wrong_shape(row), &CODE, &ENDS)? {
+            return Ok(Some(("function", row)));
+        }
     }
-    Ok(())
-}
-
-#[test]
-fn refuses_wrong_operations(rt: HostRuntime) -> Result<(), Fail> {
     for row in 0..7 {
-        let valid = is_valid(rt.alloc(), &SHAPE, &wrong_code(row), &ENDS)?;
-        assert!(rt; !valid, "row {row}");
+        if is_valid(alloc, &SHAPE, &wrong_code(row), &ENDS)? {
+            return Ok(Some(("operation", row)));
+        }
     }
-    Ok(())
-}
-
-#[test]
-fn refuses_wrong_ends(rt: HostRuntime) -> Result<(), Fail> {
     for row in 0..10 {
-        let valid = is_valid(rt.alloc(), &SHAPE, &CODE, &wrong_ends(row))?;
-        assert!(rt; !valid, "row {row}");
+        if is_valid(alloc, &SHAPE, &CODE, &wrong_ends(row))? {
+            return Ok(Some(("end", row)));
+        }
     }
-    Ok(())
+    Ok(None)
 }
 
 #[test]
-fn takes_what_is_just_within(rt: HostRuntime) -> Result<(), Fail> {
-    let shape = Shape {
-        image: 524_288,
-        frame: 262_144,
-        second: b"while",
-        ..SHAPE
-    };
-    let code = Code {
-        offset: 1_048_576,
-        ..CODE
-    };
-    assert!(rt; is_valid(rt.alloc(), &SHAPE, &CODE, &ENDS)?);
-    assert!(rt; is_valid(rt.alloc(), &shape, &code, &ENDS)?);
-    Ok(())
+fn what_breaks_a_rule_is_refused(rt: HostRuntime) {
+    assert_eq!(rt; first_taken(rt.alloc()), Ok(None));
+}
+
+const WIDEST: Shape = Shape {
+    image: 524_288,
+    frame: 262_144,
+    second: b"while",
+    ..SHAPE
+};
+
+const FARTHEST: Code = Code {
+    offset: 1_048_576,
+    ..CODE
+};
+
+const EIGHT: Shape = Shape {
+    params: &[0, 1, 2, 3, 4, 5, 6, 7],
+    ..SHAPE
+};
+
+const WITH_EIGHT: Ends = Ends {
+    args: &[0, 0, 0, 0, 0, 0, 0, 1],
+    ..ENDS
+};
+
+const NINE: Shape = Shape {
+    params: &[0, 1, 2, 3, 4, 5, 6, 7, 8],
+    ..SHAPE
+};
+
+const WITH_NINE: Ends = Ends {
+    args: &[0, 0, 0, 0, 0, 0, 0, 1, 1],
+    ..ENDS
+};
+
+/// Whether what is just within the limits is taken: as it is, at the limits, and with eight
+/// parameters; and whether nine are.
+fn limits(alloc: Global) -> Result<[bool; 4], AllocError> {
+    Ok([
+        is_valid(alloc, &SHAPE, &CODE, &ENDS)?,
+        is_valid(alloc, &WIDEST, &FARTHEST, &ENDS)?,
+        is_valid(alloc, &EIGHT, &CODE, &WITH_EIGHT)?,
+        is_valid(alloc, &NINE, &CODE, &WITH_NINE)?,
+    ])
 }
 
 #[test]
-fn bounds_parameters(rt: HostRuntime) -> Result<(), Fail> {
-    let eight = Shape {
-        params: &[0, 1, 2, 3, 4, 5, 6, 7],
-        ..SHAPE
+fn what_is_just_within_is_taken(rt: HostRuntime) {
+    assert_eq!(rt; limits(rt.alloc()), Ok([true, true, true, false]));
+}
+
+/// Operations, functions, places and bytes of the program of the tables, and the counts with which
+/// it begins.
+fn parts(alloc: Global) -> Result<Option<[u64; 6]>, AllocError> {
+    let Some(program) = program(alloc, &SHAPE, &CODE, &ENDS)? else {
+        return Ok(None);
     };
-    let nine = Shape {
-        params: &[0, 1, 2, 3, 4, 5, 6, 7, 8],
-        ..SHAPE
-    };
-    let with_eight = Ends {
-        args: &[0, 0, 0, 0, 0, 0, 0, 1],
-        ..ENDS
-    };
-    let with_nine = Ends {
-        args: &[0, 0, 0, 0, 0, 0, 0, 1, 1],
-        ..ENDS
-    };
-    assert!(rt; is_valid(rt.alloc(), &eight, &CODE, &with_eight)?);
-    assert!(rt; !is_valid(rt.alloc(), &nine, &CODE, &with_nine)?);
-    Ok(())
+    let counts = Counts::zero(alloc, &program)?;
+    Ok(Some([
+        program.ops(),
+        program.funcs().len() as u64,
+        program.places().len() as u64,
+        program.image().len() as u64,
+        counts.edge(0, 0, 1),
+        counts.entries(1),
+    ]))
 }
 
 #[test]
-fn tells_its_parts(rt: HostRuntime) -> Result<(), Fail> {
-    let program = program(rt.alloc(), &SHAPE, &CODE, &ENDS)?.ok_or("valid")?;
-    assert_eq!(rt; program.ops(), 516);
-    assert_eq!(rt; program.funcs().len(), 2);
-    assert_eq!(rt; program.places().len(), 2);
-    assert_eq!(rt; program.image(), [7, 7, 7].as_slice());
-    Ok(())
-}
-
-#[test]
-fn copies_each_block_once(rt: HostRuntime) -> Result<(), Fail> {
-    let program = program(rt.alloc(), &SHAPE, &CODE, &ENDS)?.ok_or("valid")?;
-    let copied = Copied::same(rt.alloc(), &program)?;
-    assert_eq!(rt; copied.tac().ops(), 516);
-    assert_eq!(rt; copied.origin(0, 2), Some(2));
-    assert_eq!(rt; copied.origin(0, 3), None);
-    assert_eq!(rt; copied.origin(2, 0), None);
-    Ok(())
-}
-
-#[test]
-fn counts_nothing_at_first(rt: HostRuntime) -> Result<(), Fail> {
-    let program = program(rt.alloc(), &SHAPE, &CODE, &ENDS)?.ok_or("valid")?;
-    let counts = Counts::zero(rt.alloc(), &program)?;
-    assert!(rt; counts.matches(&program));
-    assert_eq!(rt; counts.funcs().len(), 2);
-    assert_eq!(rt; counts.edge(0, 0, 1), 0);
-    assert_eq!(rt; counts.entries(1), 0);
-    Ok(())
+fn a_program_tells_its_parts(rt: HostRuntime) {
+    assert_eq!(rt; parts(rt.alloc()), Ok(Some([516, 2, 2, 3, 0, 0])));
 }
 
 /// `const r0 1` and a branch on r0, and blocks that return.
@@ -435,47 +430,41 @@ fn returns_only(alloc: Global, blocks: usize) -> Result<Option<TacProgram>, Allo
     Ok(TacProgram::assemble(Vec::new(alloc), places, funcs))
 }
 
-#[test]
-fn wants_an_entry(rt: HostRuntime) -> Result<(), Fail> {
-    assert!(rt; returns_only(rt.alloc(), 0)?.is_none());
-    assert!(rt; returns_only(rt.alloc(), 1)?.is_some());
-    Ok(())
+/// The operations of programs of no block, of one, of a branch with one target and of one with two.
+fn sizes(alloc: Global) -> Result<[Option<u64>; 4], AllocError> {
+    Ok([
+        returns_only(alloc, 0)?.map(|program| program.ops()),
+        returns_only(alloc, 1)?.map(|program| program.ops()),
+        branching(alloc, 1, 1)?.map(|program| program.ops()),
+        branching(alloc, 2, 2)?.map(|program| program.ops()),
+    ])
 }
 
 #[test]
-fn wants_two_targets(rt: HostRuntime) -> Result<(), Fail> {
-    let same = branching(rt.alloc(), 1, 1)?;
-    let two = branching(rt.alloc(), 2, 2)?.ok_or("valid")?;
-    assert!(rt; same.is_none());
-    assert_eq!(rt; two.ops(), 4);
-    Ok(())
+fn entries_and_two_targets_are_wanted(rt: HostRuntime) {
+    assert_eq!(rt; sizes(rt.alloc()), Ok([None, Some(1), None, Some(4)]));
+}
+
+/// Of chains of one function and of live sets of one block: what they tell, and what of others.
+fn told(alloc: Global) -> Result<([bool; 2], [bool; 4]), AllocError> {
+    let chain = Chain::keep(Items::from_slice(alloc, &[0, 2])?);
+    let chains = Items::from_vec(vec![in alloc; chain]?);
+    let traces = Traces::keep(Items::from_vec(vec![in alloc; chains]?));
+    let labels = Items::from_vec(vec![in alloc; Items::from_slice(alloc, &[3, 5])?]?);
+    let live = Live::keep(Items::from_vec(vec![in alloc; labels]?));
+    Ok((
+        [traces.chains(0).is_some(), traces.chains(1).is_some()],
+        [
+            live.at(0, 0, 5),
+            live.at(0, 0, 4),
+            live.at(0, 1, 5),
+            live.at(1, 0, 5),
+        ],
+    ))
 }
 
 #[test]
-fn tells_chains(rt: HostRuntime) -> Result<(), Fail> {
-    let labels = Items::from_slice(rt.alloc(), &[0, 2])?;
-    let chain = Chain::keep(labels);
-    assert_eq!(rt; chain.list(), [0, 2].as_slice());
-    let mut chains = Items::new(rt.alloc());
-    chains.push(chain)?;
-    let mut funcs = Items::new(rt.alloc());
-    funcs.push(chains)?;
-    let traces = Traces::keep(funcs);
-    assert!(rt; traces.chains(0).is_some());
-    assert!(rt; traces.chains(1).is_none());
-    Ok(())
-}
-
-#[test]
-fn tells_live_registers(rt: HostRuntime) -> Result<(), Fail> {
-    let mut labels = Items::new(rt.alloc());
-    labels.push(Items::from_slice(rt.alloc(), &[3, 5])?)?;
-    let mut funcs = Items::new(rt.alloc());
-    funcs.push(labels)?;
-    let live = Live::keep(funcs);
-    assert!(rt; live.at(0, 0, 5));
-    assert!(rt; !live.at(0, 0, 4));
-    assert!(rt; !live.at(0, 1, 5));
-    assert!(rt; !live.at(1, 0, 5));
-    Ok(())
+fn chains_and_live_registers_are_told(rt: HostRuntime) {
+    let want = ([true, false], [true, false, false, false]);
+    assert_eq!(rt; told(rt.alloc()), Ok(want));
 }

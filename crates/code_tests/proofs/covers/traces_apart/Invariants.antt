@@ -1,6 +1,6 @@
 use Rattle.std.proofs.Common.{◌≡◌, map, take}
 use Rattle.tac_core.specs.Traces.{apart}
-use Rattle.tac_core.proofs.cover_tests.traces_apart.Given as goal
+use Rattle.code_tests.proofs.covers.traces_apart.Given as goal
 
 abbrev pub invariant-loop-list : goal.invariant-loop-list
 invariant-loop-list l = l.funcs ≡ map apart (take l.list-index l.labels)

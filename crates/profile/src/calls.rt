@@ -121,11 +121,7 @@ pub(crate) fn enter<'a>(
 }
 
 /// The registers of a call that begins: zeros, but for the parameters.
-pub(crate) fn first_regs(
-    alloc: Global,
-    func: &TacFunc,
-    values: &[i64],
-) -> Result<Items<i64>, AllocError>
+fn first_regs(alloc: Global, func: &TacFunc, values: &[i64]) -> Result<Items<i64>, AllocError>
     requires params { All (λ r. r < func.now.regs) func.now.params }
     requires values { length values.now ≡ length func.now.params }
     ensures regs { IfOk result (λ regs. regs ≡ first_regs (Some func.now) values.now) }
@@ -136,6 +132,23 @@ pub(crate) fn first_regs(
         regs.set(*register as usize, values[i]);
     }
     Ok(regs)
+}
+
+/// The registers of a call that begins, to which the caller's registers are passed.
+pub(crate) fn callee_regs(
+    alloc: Global,
+    func: &TacFunc,
+    regs: &[i64],
+    args: &[u32],
+) -> Result<Items<i64>, AllocError>
+    requires params { All (λ r. r < func.now.regs) func.now.params }
+    requires args { All (λ r. r < length regs.now) args.now }
+    requires count { length args.now ≡ length func.now.params }
+    ensures regs { IfOk result (λ own. own ≡ first_regs (Some func.now) (map (reg_of regs.now) args.now)) }
+    ensures many { IfOk result (λ own. length own ≡ func.now.regs) }
+{
+    let values = passed(alloc, regs, args)?;
+    first_regs(alloc, func, values.as_slice())
 }
 
 /// Registers that hold 0.
@@ -155,7 +168,7 @@ pub(crate) fn first_frame(image: usize) -> u32
 }
 
 /// The numbers that a call passes.
-pub(crate) fn passed(alloc: Global, regs: &[i64], args: &[u32]) -> Result<Items<i64>, AllocError>
+fn passed(alloc: Global, regs: &[i64], args: &[u32]) -> Result<Items<i64>, AllocError>
     requires { All (λ r. r < length regs.now) args.now }
     ensures { IfOk result (λ values. values ≡ map (reg_of regs.now) args.now) }
 {

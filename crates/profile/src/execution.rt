@@ -12,8 +12,7 @@ ghost use Rattle.profile.specs.Sound.{IsSound, IsBlock, IsGoodEndOf, state_of};
 ghost use Rattle.profile.specs.Tallies.{tallied, tallied_crossing, tallied_entry};
 
 use crate::calls::{
-    Call, FIRST, Pending, block_at, enter, first_frame, first_regs, func_at, overflows, passed,
-    zeros,
+    Call, FIRST, Pending, block_at, callee_regs, enter, first_frame, func_at, overflows, zeros,
 };
 use crate::effects::{do_act, number_in, set_in};
 use crate::progress::Progress;
@@ -119,8 +118,7 @@ impl<'a> Execution<'a> {
         if overflows(self.waiting.len(), top, func.frame) {
             return Ok(false);
         }
-        let values = passed(alloc, self.here.regs.as_slice(), args)?;
-        let regs = first_regs(alloc, func, values.as_slice())?;
+        let regs = callee_regs(alloc, func, self.here.regs.as_slice(), args)?;
         let outer = mem::replace(&mut self.here, enter(self.tac, callee, 0, top, regs));
         self.waiting.push(outer.waiting(dest, next))?;
         self.memory.clear(top, func.frame);

@@ -1,12 +1,16 @@
 use std::alloc::AllocError;
+use thiserror::Error;
 
 /// Why a file gave no counts. Lines are numbered from 1.
-#[derive(Clone, Copy, PartialEq, Eq, Debug, Drop)]
+#[derive(Clone, Copy, PartialEq, Eq, Debug, Drop, Error)]
 pub enum ProfErr {
     /// The line does not fit the grammar, or is missing.
+    #[error("line {0} of the profile is missing, or is not as a profile's line must be")]
     Malformed(u32),
     /// The line does not match the program.
+    #[error("line {0} of the profile does not match the program")]
     Mismatch(u32),
+    #[error("there is not enough memory to read the profile")]
     NoMemory,
 }
 

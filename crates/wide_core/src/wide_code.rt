@@ -10,6 +10,7 @@ use crate::valid_funcs::{Seen, broken_funcs, lines_of_func};
 use machine_desc::Machine;
 use std::alloc::{AllocError, Global};
 use std::marker::{Model, PhantomData};
+use thiserror::Error;
 
 const MOST_IMAGE: usize = 524_288;
 
@@ -17,10 +18,12 @@ const MOST_IMAGE: usize = 524_288;
 const IMAGE_LINE: u32 = 3;
 
 /// Why code is not taken.
-#[derive(Clone, Copy, PartialEq, Eq, Debug)]
+#[derive(Clone, Copy, PartialEq, Eq, Debug, Error)]
 pub enum ValidErr {
     /// A rule is broken: the first line of the code's text where one is, and the least rule there.
+    #[error("line {line} of the code breaks rule {rule}")]
     Broken { line: u32, rule: u8 },
+    #[error("there is not enough memory to check the code")]
     NoMemory,
 }
 

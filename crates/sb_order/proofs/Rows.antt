@@ -1,12 +1,12 @@
 -- The definitions on small superblocks.
-use Rattle.std.proofs.Common.{◌≡◌, ℕ, ◌≤◌, lit<, Bool, true, false, List, [], ◌∷◌, Some, pos, refl, if◌then◌else◌, ◌==◌}
+use Rattle.std.proofs.Common.{◌≡◌, ℕ, ◌≤◌, lit<, Bool, true, false, List, [], ◌∷◌, Some, pos, refl, if◌then◌else◌, ◌==◌, ◌&&◌, not}
 use Rattle.ib_meaning.specs.declared.place.Place.{Place}
 use Rattle.ib_base.specs.declared.integers.Width.TheVariants.{W4}
 use Rattle.ib_act.specs.declared.act.Size.TheVariants.{Four}
 use Rattle.ib_act.specs.declared.act.Act.TheVariants.{Add, Div, Load, PutNumber}
 use Rattle.machine_desc.specs.Machine.{four_units, four_latency}
 use Rattle.wide_core.specs.declared.code.WideAct.{WideAct}
-use Rattle.wide_core.specs.declared.code.WideAct.TheVariants.{Do, Check, Return}
+use Rattle.wide_core.specs.declared.code.WideAct.TheVariants.{Do, Check, Branch, Return}
 use Rattle.wide_core.specs.declared.code.WideOp.{WideOp}
 use Rattle.std.specs.Int.Signed.{le_z_yes}
 use Rattle.machine_desc.specs.Laws.{four_is_table}
@@ -152,3 +152,53 @@ d_invisible : (base : ℕ) → base ≤ 1048576 → (room : ℕ → Bool) (s : F
 unfolding Invisible
 d_invisible base low room s u st =
     invisible all true 4 32 four_units four_latency base room four_is_table low 0 row_d nothing_struck (spots (spot 4 0) (spot 5 0) (spot 5 1)) d_superblock refl s u st
+
+-- ---- a load above a branch
+
+abbrev b1 : WideOp
+b1 = op 1 false (Branch 0 5)
+
+abbrev b2 : WideOp
+b2 = op 2 true (Do (Load W4 2 1 (pos 0)))
+
+abbrev b4 : WideOp
+b4 = op 4 false (Return (Some 2))
+
+abbrev row_b : List WideOp
+row_b = b1 ∷ b2 ∷ b4 ∷ []
+
+-- register 2 is not live where the branch goes
+abbrev but_two : ℕ → ℕ → Bool
+but_two w r = not ((w == 5) && (r == 2))
+
+abbrev above : ℕ → Spot
+above n = if n == 2 then spot 0 0 else (if n == 1 then spot 0 1 else spot 2 0)
+
+abbrev legal_above : (ℕ → ℕ → Bool) → Bool → Bool
+legal_above heads one = is_legal heads one 4 four_units four_latency row_b nothing_struck above
+
+above_legal : (one : Bool) → legal_above but_two one ≡ true
+above_legal true = refl
+above_legal false = refl
+
+-- where it is live, the load may not go there
+above_live : (one : Bool) → legal_above all one ≡ false
+above_live true = refl
+above_live false = refl
+
+above_words : scheduled row_b nothing_struck above ≡ (b2 ∷ b1 ∷ []) ∷ (b4 ∷ []) ∷ []
+above_words = refl
+
+b_superblock : IsSuperblock but_two 0 row_b
+b_superblock = record {
+  rises = RisesBy 0 b1 (b2 ∷ b4 ∷ []) (lit< tt) refl (RisesBy 1 b2 (b4 ∷ []) (lit< tt) refl (RisesBy 3 b4 [] (lit< tt) refl (RisesNot 4)));
+  fits = record { fits = λ r e. refl };
+  last = NotLast b1 (b2 ∷ b4 ∷ []) refl (NotLast b2 (b4 ∷ []) refl (TheLast b4 refl));
+  sources = Cons b1 (b2 ∷ b4 ∷ []) (record { item = refl; in_range = tt }) (Cons b2 (b4 ∷ []) (record { item = refl; in_range = (le_z_yes tt, le_z_yes tt) }) (Cons b4 [] (record { item = refl; in_range = tt }) Nil));
+}
+
+-- in both versions: where the branch leaves, nobody can tell that the load was done
+b_invisible : (one : Bool) (base : ℕ) → base ≤ 1048576 → (room : ℕ → Bool) (s : Flow) (u : Plain) → Starts but_two 0 s u → SameEvent but_two (run_words base room one ((b2 ∷ b1 ∷ []) ∷ (b4 ∷ []) ∷ []) (λ t. Through t) s) (plain base room row_b u)
+unfolding Invisible
+b_invisible one base low room s u st =
+    invisible but_two one 4 32 four_units four_latency base room four_is_table low 0 row_b nothing_struck above b_superblock (above_legal one) s u st

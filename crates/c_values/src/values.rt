@@ -13,11 +13,9 @@ pub fn width_of(ty: ValueType) -> Width
     ensures { result ≡ v.width_of ty }
 {
     match ty {
-        ValueType::Base(Base::Char) => Width::W1,
+        ValueType::Base(Base::Void | Base::Char) => Width::W1,
         ValueType::Base(Base::Int) => Width::W4,
-        ValueType::Base(Base::Void | Base::Long) | ValueType::Pointer { .. } | ValueType::Null => {
-            Width::W8
-        }
+        ValueType::Base(Base::Long) | ValueType::Pointer { .. } | ValueType::Null => Width::W8,
     }
 }
 

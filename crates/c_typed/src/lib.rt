@@ -7,8 +7,6 @@ mod operation;
 mod program;
 mod rule;
 mod stmt;
-#[cfg(test)]
-mod tests;
 mod types;
 
 pub use choice::{Choice, Operand, branches, chosen, fits};

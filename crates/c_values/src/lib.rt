@@ -1,8 +1,6 @@
 //! What the operations of typed programs give.
 #![tactic(auto)]
 
-#[cfg(test)]
-mod tests;
 mod values;
 
 pub use values::{

@@ -2,6 +2,7 @@
 use Rattle.std.proofs.Common.{◌≡◌, ◌⊎◌, inl, inr, ℕ, List, Option, Some, None, refl, sym, ◌∙◌, subst}
 use Rattle.std.specs.Prelude.{IsSomeAnd, IfSome}
 use Rattle.std.specs.FinMap.{get}
+use Rattle.ib_meaning.proofs.Facts.{some_same}
 use Rattle.ib_base.specs.World.{World, Disk}
 use Rattle.c_typed.specs.Program.{Program as Typed}
 use Rattle.first_form.specs.declared.program.Program.{Program}
@@ -15,12 +16,9 @@ use Rattle.impactc_core.specs.Sources.{HasProgram, IsKnown, IsPast, IsRefused, I
 use Rattle.impactc_core.proofs.Forms.{no_other_form}
 use Rattle.impactc_core.proofs.Fronts.{no_fault, no_past}
 
-some_same : (a b : List ℕ) → Some a ≡ Some b → a ≡ b
-some_same a b e = cc
-
 same_content : (disk : Option Disk) (file a b : List ℕ) → IsSomeAnd disk (λ d. get d.files file ≡ Some a) → IfSome disk (λ d. get d.files file ≡ Some b) → a ≡ b
 same_content None file a b h k = absurd h
-same_content (Some disk) file a b h k = some_same a b (sym h ∙ k)
+same_content (Some disk) file a b h k = some_same (sym h ∙ k)
 
 -- a file that has a program is not refused
 module _ (file content : List ℕ) (program : Typed) (old : World) (known : IsKnown file old content) (has : HasProgram content program) where

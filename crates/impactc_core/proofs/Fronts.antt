@@ -11,9 +11,7 @@ use Rattle.c_lex.specs.declared.error.LexErr.{LexErr}
 use Rattle.c_lex.specs.declared.error.LexErr.TheVariants.{BadByte, OpenComment, BadLiteral, NoMemory as OutOfMemory}
 use Rattle.c_lex.specs.Lexed.{Refuses as RefusesBytes}
 use Rattle.c_types_operators.specs.declared.rule.Breach.{Breach}
-use Rattle.c_types_operators.specs.declared.rule.Rule.{Rule}
-use Rattle.c_types_operators.specs.declared.rule.Rule.TheVariants as rule
-use Rattle.c_types_operators.specs.Rules.{number_of}
+use Rattle.c_typed.specs.declared.rule.Rule.{Rule}
 use Rattle.c_parse.specs.declared.parser.ParseErr.{ParseErr}
 use Rattle.c_parse.specs.declared.parser.ParseErr.TheVariants.{TooDeep, Syntax as WrongAt, NoMemory as NoRoom}
 use Rattle.c_parse.specs.Parses.{Refuses as RefusesTokens}
@@ -28,7 +26,7 @@ use Rattle.impactc_core.specs.declared.core_err.Limit.TheVariants.{Source as Sou
 use Rattle.impactc_core.specs.declared.core_err.SourceFault.{SourceFault}
 use Rattle.impactc_core.specs.declared.core_err.SourceFault.TheVariants.{Lexical, Syntax, Typing, NotInThisVersion}
 use Rattle.impactc_core.specs.Sources.{HasUnit, HasProgram, IsJudged, HasFault, IsPast}
-use Rattle.impactc_core.specs.Work.{Refuses, lexical_refusal, phrase_refusal, typing_refusal, rule_of}
+use Rattle.impactc_core.specs.Work.{Refuses, lexical_refusal, phrase_refusal, typing_refusal}
 
 -- ---- what a source has
 
@@ -57,43 +55,27 @@ refuses_phrases content tokens (WrongAt before) fits cut wrong =
     record { tokens = tokens; has = record { cut = cut; kept = wrong.0 }; before = before; wrong = wrong.1; at = refl }
 refuses_phrases content tokens NoRoom fits cut wrong = tt
 
-number-rule : (r : Rule) → rule_of (number_of r) ≡ r
-number-rule rule.UnknownName = refl
-number-rule rule.Redeclared = refl
-number-rule rule.NoMain = refl
-number-rule rule.WrongSignature = refl
-number-rule rule.BadType = refl
-number-rule rule.NotAPlace = refl
-number-rule rule.NotACondition = refl
-number-rule rule.WrongOperands = refl
-number-rule rule.NotAssignable = refl
-number-rule rule.NotAFunction = refl
-number-rule rule.ArgumentCount = refl
-number-rule rule.OutsideALoop = refl
-number-rule rule.ReturnValue = refl
-number-rule rule.WrongInitialiser = refl
-
 -- a source that has a unit, but no program within the limits
 module _ (content : List ℕ) (unit : List Top) (fits : length content ≤ 1048576) (has : (tokens : List Token) × HasUnit content tokens unit) where
   judged : (said : Verdict) → verdict unit ≡ said → IsJudged content said
   judged said says = record { tokens = has.0; unit = unit; has = has.1; says = says }
 
-  breaks : (breach : Breach) (number : ℕ) (place : Place) → verdict unit ≡ breaks_rule (Some breach) → number ≡ number_of breach.rule → place ≡ breach.place → HasFault content place (Typing (rule_of number))
-  breaks breach number place says is at =
-      subst (λ (p : Place). HasFault content p (Typing (rule_of number))) (sym at)
-      (subst (λ (r : Rule). HasFault content breach.place (Typing r)) (sym (number-rule breach.rule) ∙ ap rule_of (sym is))
+  breaks : (breach : Breach) (rule : Rule) (place : Place) → verdict unit ≡ breaks_rule (Some breach) → rule ≡ breach.rule → place ≡ breach.place → HasFault content place (Typing rule)
+  breaks breach rule place says is at =
+      subst (λ (p : Place). HasFault content p (Typing rule)) (sym at)
+      (subst (λ (r : Rule). HasFault content breach.place (Typing r)) (sym is)
       (judged (breaks_rule (Some breach)) says))
 
   by_verdict : (said : Verdict) (refusal : CheckErr) → verdict unit ≡ said → Refused said refusal → Refuses content (typing_refusal refusal)
-  by_verdict (keeps_rules limited) (Broken number place) says is = absurd is
+  by_verdict (keeps_rules limited) (Broken rule place) says is = absurd is
   by_verdict (keeps_rules limited) (LargeGlobals bytes) says is = (fits, (bytes, judged (keeps_rules (large_globals bytes)) (says ∙ ap keeps_rules is)))
   by_verdict (keeps_rules limited) (LargeFrame bytes) says is = (fits, (bytes, judged (keeps_rules (large_frame bytes)) (says ∙ ap keeps_rules is)))
   by_verdict (keeps_rules limited) NoSpace says is = tt
-  by_verdict (breaks_rule None) (Broken number place) says is = absurd is
+  by_verdict (breaks_rule None) (Broken rule place) says is = absurd is
   by_verdict (breaks_rule None) (LargeGlobals bytes) says is = absurd is
   by_verdict (breaks_rule None) (LargeFrame bytes) says is = absurd is
   by_verdict (breaks_rule None) NoSpace says is = tt
-  by_verdict (breaks_rule (Some breach)) (Broken number place) says is = breaks breach number place says is.0 is.1
+  by_verdict (breaks_rule (Some breach)) (Broken rule place) says is = breaks breach rule place says is.0 is.1
   by_verdict (breaks_rule (Some breach)) (LargeGlobals bytes) says is = absurd is
   by_verdict (breaks_rule (Some breach)) (LargeFrame bytes) says is = absurd is
   by_verdict (breaks_rule (Some breach)) NoSpace says is = tt

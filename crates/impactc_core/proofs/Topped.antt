@@ -1,6 +1,5 @@
 -- A work and its note make an answer.
-use Rattle.std.proofs.Common.{◌≡◌, ◌⊎◌, inl, inr, ℕ, ◌≤◌, List, Option, Some, None, Result, Ok, Err, refl, sym, ◌∙◌, subst, arith}
-use Rattle.std.specs.Prelude.{IsErrOf}
+use Rattle.std.proofs.Common.{◌≡◌, ◌⊎◌, inl, inr, ℕ, ◌≤◌, List, Option, Some, None, Result, Ok, Err, refl, sym, ap, ◌∙◌, subst, arith}
 use Rattle.ib_base.specs.Cause.{Rose}
 use Rattle.ib_base.specs.World.{World}
 use Rattle.impactc_core.specs.declared.core_err.CoreErr.{CoreErr}
@@ -10,7 +9,7 @@ use Rattle.impactc_core.specs.declared.status.Status.TheVariants.{Done, Usage, S
 use Rattle.impactc_core.specs.declared.success.Success.{Success}
 use Rattle.impactc_core.specs.declared.words.Command.{Command}
 use Rattle.impactc_core.specs.declared.words.Command.TheVariants.{Check, Interp, Run}
-use Rattle.impactc_core.specs.Answers.{IsPlain, AnswerOf, MayChange, Works, IsAnswersNote, NoteOf, Answers, IsCaused}
+use Rattle.impactc_core.specs.Answers.{IsPlain, AnswerOf, MayChange, Works, IsAnswersNote, NoteOf, Answers, IsUnfailed, WorkCause, NoteCause, IsCaused}
 use Rattle.impactc_core.specs.CheckAnswers.{CheckAnswer}
 use Rattle.impactc_core.specs.InterpAnswers.{InterpAnswer}
 use Rattle.impactc_core.specs.Notes.{refusal_note, status_of, note_of}
@@ -97,28 +96,51 @@ module _ (read : Option Command) (file : List ℕ) (old new : World) (status : S
 
 -- ---- causes
 
+unfailed : (work : Result Success CoreErr) → (status_of work ≡ HostFault → ⊥) → IsUnfailed work
+unfailed (Ok success) other = tt
+unfailed (Err BadWords) other = tt
+unfailed (Err (Source file place fault)) other = tt
+unfailed (Err Host) other = other refl
+unfailed (Err Memory) other = tt
+unfailed (Err (Large limit)) other = tt
+
+plain_is_other : (status : Status) → IsPlain status → status ≡ HostFault → ⊥
+plain_is_other status plain e = subst IsPlain e plain
+
+same_status : (work : Result Success CoreErr) (status : Status) (whole : List ℕ) → IsPlain status → NoteFor work status whole → status ≡ status_of work
+same_status work Done whole plain says = says.1
+same_status work Usage whole plain says = says.1
+same_status work SourceRefused whole plain says = says.1
+same_status work ProfileRefused whole plain says = says.1
+same_status work CodeRefused whole plain says = says.1
+same_status work HostFault whole plain says = absurd plain
+same_status work NoMemory whole plain says = absurd plain
+same_status work TooLarge whole plain says = says.1
+same_status work ProgramFault whole plain says = says.1
+same_status work CyclesSpent whole plain says = says.1
+
 -- a count that rose and does not fall has risen
-pub rose_after : (before mid now : ℕ) → Rose before mid → mid ≤ now → Rose before now
+rose_after : (before mid now : ℕ) → Rose before mid → mid ≤ now → Rose before now
 rose_after before mid now rose le = omega (arith, rose)
 
-pub rose_later : (before mid now : ℕ) → before ≤ mid → Rose mid now → Rose before now
-rose_later before mid now le rose = omega (arith, rose)
+module _ (work : Result Success CoreErr) (status : Status) (before mid now : ℕ) (one : WorkCause before mid work) (two : NoteCause mid now (status_of work) status) where
+  rose_in_note : status ≡ HostFault → (status_of work ≡ HostFault → ⊥) → Rose before now
+  rose_in_note e other = subst (λ n. Rose n now) (one.stands (unfailed work other)) (two.rose e other)
 
-module _ (status : Status) (before mid now : ℕ) (now_later : mid ≤ now) where
-  abbrev Later : Result Success CoreErr → Type 0
-  Later work = (status ≡ HostFault × (status_of work ≡ HostFault → ⊥)) → Rose mid now
+  by_work : (r : Result Success CoreErr) → work ≡ r → status ≡ HostFault → Rose before now
+  by_work (Ok success) is e = rose_in_note e (λ h. subst IsPlain (sym (ap status_of is) ∙ h) (success_plain success))
+  by_work (Err BadWords) is e = rose_in_note e (λ h. cc)
+  by_work (Err (Source file place fault)) is e = rose_in_note e (λ h. cc)
+  by_work (Err Host) is e = rose_after before mid now (one.rose is) two.later
+  by_work (Err Memory) is e = rose_in_note e (λ h. cc)
+  by_work (Err (Large limit)) is e = rose_in_note e (λ h. cc)
 
-  other : (work : Result Success CoreErr) → (status_of work ≡ HostFault → ⊥) → before ≤ mid → Later work → status ≡ HostFault → Rose before now
-  other work not_host le later e = rose_later before mid now le (later (e, not_host))
-
-  by_work : (work : Result Success CoreErr) → before ≤ mid → (IsErrOf work Host → Rose before mid) → Later work → status ≡ HostFault → Rose before now
-  by_work (Ok success) le rose later e = other (Ok success) (λ h. subst IsPlain h (success_plain success)) le later e
-  by_work (Err BadWords) le rose later e = other (Err BadWords) (λ h. cc) le later e
-  by_work (Err (Source file place fault)) le rose later e = other (Err (Source file place fault)) (λ h. cc) le later e
-  by_work (Err Host) le rose later e = rose_after before mid now (rose refl) now_later
-  by_work (Err Memory) le rose later e = other (Err Memory) (λ h. cc) le later e
-  by_work (Err (Large limit)) le rose later e = other (Err (Large limit)) (λ h. cc) le later e
-
--- the host's fault in a work or its note rose the count
-pub host_caused : (work : Result Success CoreErr) (status : Status) (before mid now : ℕ) → IsCaused before mid (IsErrOf work Host) → IsCaused mid now ((status ≡ HostFault) × (status_of work ≡ HostFault → ⊥)) → status ≡ HostFault → Rose before now
-host_caused work status before mid now one two = by_work status before mid now two.later work one.later one.rose two.rose
+  -- a host that failed, in the work or at its note
+  pub caused : (old new : World) → LeavesNote work old new status → IsCaused before now status
+  caused old new left = record {
+    later = omega (arith, one.later, two.later);
+    rose = by_work work refl;
+    stands = λ plain.
+        let same : status ≡ status_of work = same_status work status left.whole plain left.says in
+        two.stands plain ∙ one.stands (unfailed work (λ h. plain_is_other status plain (same ∙ h)));
+  }

@@ -1,9 +1,10 @@
 -- The answers of the commands, each with its cause.
-use Rattle.std.specs.Prelude.{◌≡◌, ◌≤◌, ◌⊎◌, ⊤, ℕ, List, Option, Some, None}
+use Rattle.std.specs.Prelude.{◌≡◌, ◌≤◌, ◌⊎◌, ⊤, ℕ, List, Option, Some, None, Result, Ok, Err, IsErrOf}
 use Rattle.ib_base.specs.Cause.{Rose}
 use Rattle.ib_base.specs.World.{World, LacksFile, Begins, noted}
 use Rattle.c_typed.specs.Program.{Program as Typed}
 use Rattle.first_form.specs.declared.program.Program.{Program}
+use Rattle.impactc_core.specs.declared.core_err.CoreErr.{CoreErr}
 use Rattle.impactc_core.specs.declared.core_err.CoreErr.TheVariants.{Usage as BadWords, HostFault as Host, NoMemory as Memory}
 use Rattle.impactc_core.specs.declared.status.Status.{Status}
 use Rattle.impactc_core.specs.declared.status.Status.TheVariants.{Done, Usage, HostFault, NoMemory, ProgramFault, CyclesSpent}
@@ -90,7 +91,33 @@ pub record Answers (answer : Status → World → World → List ℕ → Type 0)
   pub exact : IsPlain status → note ≡ whole
   pub world : new ≡ noted worked note
 
--- the count does not fall, and rose where this was so
-pub record IsCaused (before now : ℕ) (failed : Type 0) : Type 0 where
+-- ---- the host's faults
+
+-- a refusal that is no failure of the host
+abbrev pub IsOwn : CoreErr → Type 0
+IsOwn Host = ⊥
+IsOwn refusal = ⊤
+
+-- what was not refused, or not for a failure of the host
+abbrev pub IsUnfailed : {T : Type 0} → Result T CoreErr → Type 0
+IsUnfailed (Ok x) = ⊤
+IsUnfailed (Err refusal) = IsOwn refusal
+
+-- of the work before its note: the count of faults does not fall, it rose where the host failed, and stands where it did not
+pub record WorkCause {T : Type 0} (before now : ℕ) (result : Result T CoreErr) : Type 0 where
   pub later : before ≤ now
-  pub rose : failed → Rose before now
+  pub rose : IsErrOf result Host → Rose before now
+  pub stands : IsUnfailed result → now ≡ before
+
+-- of the note behind work of this status: the same, but that a failure adds nothing to a status that says so already
+pub record NoteCause (before now : ℕ) (work status : Status) : Type 0 where
+  pub later : before ≤ now
+  pub rose : status ≡ HostFault → (work ≡ HostFault → ⊥) → Rose before now
+  pub stands : IsPlain status → now ≡ before
+
+-- of a call: the count does not fall, it rose where the host is at fault, and it stands with any status but those of a
+-- failing host and of want of memory
+pub record IsCaused (before now : ℕ) (status : Status) : Type 0 where
+  pub later : before ≤ now
+  pub rose : status ≡ HostFault → Rose before now
+  pub stands : IsPlain status → now ≡ before

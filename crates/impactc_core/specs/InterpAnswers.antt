@@ -32,7 +32,7 @@ InterpAnswer file SourceRefused old new note = IsRefused file old new note
 InterpAnswer file TooLarge old new note = IsTooLarge file old new note
 InterpAnswer file status old new note = ⊥
 
--- a beginning of the output of the content's program was printed
+-- a beginning of the output of the content's program was printed; what is left of the input is an end of it
 pub record BeginsMeaning (content : List ℕ) (old new : World) : Type 0 where
   pub program : Program
   pub typed : HasProgram content program

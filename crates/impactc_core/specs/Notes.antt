@@ -6,8 +6,8 @@ use Rattle.ib_meaning.specs.Place.{place_text}
 use Rattle.ib_base.specs.declared.outcome.Outcome.{Outcome}
 use Rattle.ib_base.specs.declared.outcome.Outcome.TheVariants as outcome
 use Rattle.c_ast.specs.declared.fault.LexFault.TheVariants.{BadByte, OpenComment, BadLiteral}
-use Rattle.c_types_operators.specs.declared.rule.Rule.{Rule}
-use Rattle.c_types_operators.specs.declared.rule.Rule.TheVariants as rule
+use Rattle.c_typed.specs.declared.rule.Rule.{Rule}
+use Rattle.c_typed.specs.declared.rule.Rule.TheVariants as rule
 use Rattle.impactc_core.specs.declared.core_err.CoreErr.{CoreErr}
 use Rattle.impactc_core.specs.declared.core_err.CoreErr.TheVariants.{Usage as BadWords, Source, HostFault as Host, NoMemory as Memory, TooLarge as Large}
 use Rattle.impactc_core.specs.declared.core_err.Limit.{Limit}

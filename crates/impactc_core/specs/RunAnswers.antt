@@ -65,7 +65,7 @@ RunAnswer file SourceRefused old new note = IsRefused file old new note ⊎ IsNo
 RunAnswer file TooLarge old new note = IsTooLarge file old new note
 RunAnswer file status old new note = ⊥
 
--- a beginning of an output of the content's program was printed
+-- a beginning of an output of the content's program was printed; what is left of the input is an end of it
 pub record BeginsRun (content : List ℕ) (old new : World) : Type 0 where
   pub program : Program
   pub form : HasFirstForm content program

@@ -1,5 +1,5 @@
 -- What the parts of a command's work come to.
-use Rattle.std.specs.Prelude.{◌≡◌, ◌≤◌, ◌<◌, ◌⊎◌, ⊤, ℕ, List, length, slice_get, Result, if◌then◌else◌, ◌==◌}
+use Rattle.std.specs.Prelude.{◌≡◌, ◌≤◌, ◌<◌, ◌⊎◌, ⊤, ℕ, List, length, slice_get, Result}
 use Rattle.ib_meaning.specs.Agreement.{Agrees, Finish}
 use Rattle.ib_base.specs.World.{World, HasFile, Begins, noted}
 use Rattle.ib_base.specs.declared.outcome.Outcome.{Outcome}
@@ -18,8 +18,6 @@ use Rattle.c_lex.specs.declared.error.LexErr.TheVariants.{BadByte, OpenComment, 
 use Rattle.c_parse.specs.declared.parser.ParseErr.{ParseErr}
 use Rattle.c_parse.specs.declared.parser.ParseErr.TheVariants.{TooDeep, Syntax as WrongAt, NoMemory as NoRoom}
 use Rattle.c_typed.specs.Program.{Program as Typed}
-use Rattle.c_types_operators.specs.declared.rule.Rule.{Rule}
-use Rattle.c_types_operators.specs.declared.rule.Rule.TheVariants as rule
 use Rattle.c_program.specs.declared.error.CheckErr.{CheckErr}
 use Rattle.c_program.specs.declared.error.CheckErr.TheVariants.{Rule as Broken, Globals as LargeGlobals, Frame as LargeFrame, NoMemory as NoSpace}
 use Rattle.c_eval.specs.Running.{MeansSo}
@@ -67,27 +65,9 @@ phrase_refusal content tokens (TooDeep place) = PastLimit Nesting
 phrase_refusal content tokens (WrongAt before) = Fault (place_of content (slice_get tokens before)) Syntax
 phrase_refusal content tokens NoRoom = NoMemoryLeft
 
--- the rule with this number
-abbrev pub rule_of : ℕ → Rule
-rule_of number =
-    if number == 1 then rule.UnknownName else
-    (if number == 2 then rule.Redeclared else
-    (if number == 3 then rule.NoMain else
-    (if number == 4 then rule.WrongSignature else
-    (if number == 5 then rule.BadType else
-    (if number == 6 then rule.NotAPlace else
-    (if number == 7 then rule.NotACondition else
-    (if number == 8 then rule.WrongOperands else
-    (if number == 9 then rule.NotAssignable else
-    (if number == 10 then rule.NotAFunction else
-    (if number == 11 then rule.ArgumentCount else
-    (if number == 12 then rule.OutsideALoop else
-    (if number == 13 then rule.ReturnValue else
-    rule.WrongInitialiser))))))))))))
-
 -- the refusal of a tree
 abbrev pub typing_refusal : CheckErr → SourceErr
-typing_refusal (Broken number place) = Fault place (Typing (rule_of number))
+typing_refusal (Broken rule place) = Fault place (Typing rule)
 typing_refusal (LargeGlobals bytes) = PastLimit Globals
 typing_refusal (LargeFrame bytes) = PastLimit Frame
 typing_refusal NoSpace = NoMemoryLeft

@@ -1,6 +1,6 @@
 ghost use Rattle.std.specs.Prelude.{◌≡◌, ◌≤◌, length, IfOk, IfErr, IsErrOf, Some};
 ghost use Rattle.ib_base.specs.World.{LacksFile};
-ghost use Rattle.impactc_core.specs.Answers.{IsCaused, MayChange, Works};
+ghost use Rattle.impactc_core.specs.Answers.{WorkCause, MayChange, Works};
 ghost use Rattle.impactc_core.specs.CheckAnswers.{CheckAnswer};
 ghost use Rattle.impactc_core.specs.Notes.{status_of, note_of};
 ghost use Rattle.impactc_core.specs.Work.{ChecksSource, Refuses, RefusesFile};
@@ -30,8 +30,7 @@ fn check_source(alloc: Global, file: FileName, bytes: &[u8]) -> Result<Success, 
 pub fn check<H: Host>(alloc: Global, file: FileName, host: &mut H) -> Result<Success, CoreErr>
     ensures works { Works (CheckAnswer file) (MayChange (Some (Command.Check file)))
         (H.world host.old) (H.world host.new) (status_of result) (note_of result) }
-    ensures cause { IsCaused (H.faults host.old) (H.faults host.new)
-        (IsErrOf result CoreErr.HostFault) }
+    ensures cause { WorkCause (H.faults host.old) (H.faults host.new) result }
     ensures still_sure { H.sure host.old → H.sure host.new }
     ensures missing { H.sure host.old → IsErrOf result CoreErr.HostFault → LacksFile
         (H.world host.old) file }

@@ -3,7 +3,7 @@ ghost use Rattle.impactc_core.specs.Notes.{rule_text};
 
 use crate::FileName;
 use c_ast::LexFault;
-use c_types_operators::rule::Rule;
+use c_typed::Rule;
 use ib_base::Place;
 use std::fmt;
 

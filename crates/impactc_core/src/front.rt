@@ -6,7 +6,7 @@ ghost use Rattle.c_ast.specs.TreeViews.{unit_of};
 ghost use Rattle.c_ast.specs.declared.token.Token.{Token};
 ghost use Rattle.c_program.specs.Checked.{program};
 ghost use Rattle.impactc_core.specs.Sources.{HasUnit, HasProgram, place_of};
-ghost use Rattle.impactc_core.specs.Work.{Refuses, lexical_refusal, phrase_refusal, typing_refusal, rule_of, of_file};
+ghost use Rattle.impactc_core.specs.Work.{Refuses, lexical_refusal, phrase_refusal, typing_refusal, of_file};
 
 use crate::{CoreErr, FileName, Limit, SourceFault};
 use c_ast::{LexFault, Token, Unit};
@@ -14,16 +14,19 @@ use c_lex::{LexErr, end_place, lex};
 use c_parse::{ParseErr, parse};
 use c_program::{CheckErr, Program};
 use c_types::check;
-use c_types_operators::rule::Rule;
 use ib_base::Place;
 use sqlite_items::{Items, at};
 use std::alloc::Global;
+use thiserror::Error;
 
 /// Why a source is refused, whatever its file's name is.
-#[derive(Clone, Copy)]
+#[derive(Clone, Copy, Debug, Error)]
 pub enum SourceErr {
+    #[error("{place}: {fault}")]
     Fault { place: Place, fault: SourceFault },
+    #[error("too large: {0}")]
     TooLarge(Limit),
+    #[error("there is not enough memory to judge the source")]
     NoMemory,
 }
 
@@ -82,28 +85,6 @@ fn phrase_refusal(bytes: &[u8], tokens: &[Token], refusal: ParseErr) -> SourceEr
     }
 }
 
-/// The rule of typing with this number. There are no others.
-fn rule_of(number: u8) -> Rule
-    ensures { result ≡ rule_of number }
-{
-    match number {
-        1 => Rule::UnknownName,
-        2 => Rule::Redeclared,
-        3 => Rule::NoMain,
-        4 => Rule::WrongSignature,
-        5 => Rule::BadType,
-        6 => Rule::NotAPlace,
-        7 => Rule::NotACondition,
-        8 => Rule::WrongOperands,
-        9 => Rule::NotAssignable,
-        10 => Rule::NotAFunction,
-        11 => Rule::ArgumentCount,
-        12 => Rule::OutsideALoop,
-        13 => Rule::ReturnValue,
-        _ => Rule::WrongInitialiser,
-    }
-}
-
 /// The refusal of a source whose unit breaks a rule of typing, or is too large.
 fn typing_refusal(refusal: CheckErr) -> SourceErr
     ensures { result ≡ typing_refusal refusal }
@@ -111,7 +92,7 @@ fn typing_refusal(refusal: CheckErr) -> SourceErr
     match refusal {
         CheckErr::Rule { rule, place } => SourceErr::Fault {
             place,
-            fault: SourceFault::Typing(rule_of(rule)),
+            fault: SourceFault::Typing(rule),
         },
         CheckErr::Globals(_) => SourceErr::TooLarge(Limit::Globals),
         CheckErr::Frame(_) => SourceErr::TooLarge(Limit::Frame),
@@ -182,7 +163,7 @@ pub fn program_of_tokens(
     }
 }
 
-/// The program of a source.
+/// The program of a source of at most 1,048,576 bytes.
 pub fn program_of(alloc: Global, bytes: &[u8]) -> Result<Program, SourceErr>
     requires { length bytes.now ≤ 1048576 }
     ensures program { IfOk result (λ checked. HasProgram bytes.now (program checked)) }

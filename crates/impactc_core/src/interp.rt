@@ -3,7 +3,7 @@ ghost use Rattle.ib_base.specs.World.{LacksFile};
 ghost use Rattle.ib_run.specs.OverHost.{OverHost};
 ghost use Rattle.c_program.specs.Checked.{program};
 ghost use Rattle.c_eval.specs.Running.{Begins};
-ghost use Rattle.impactc_core.specs.Answers.{IsCaused, MayChange, Works};
+ghost use Rattle.impactc_core.specs.Answers.{WorkCause, MayChange, Works};
 ghost use Rattle.impactc_core.specs.InterpAnswers.{InterpAnswer, BeginsMeaning};
 ghost use Rattle.impactc_core.specs.Notes.{status_of, note_of};
 ghost use Rattle.impactc_core.specs.Work.{Interprets, InterpretsSource, IsBreak, Refuses, RefusesSource};
@@ -31,8 +31,7 @@ fn interpret_program<H: Host>(
     ensures broke { IfErr result IsBreak }
     ensures printed { OnErr result (OverHost (Begins (program checked.now) 10000000)
         (H.world host.old) (H.world host.new)) }
-    ensures cause { IsCaused (H.faults host.old) (H.faults host.new)
-        (IsErrOf result CoreErr.HostFault) }
+    ensures cause { WorkCause (H.faults host.old) (H.faults host.new) result }
     ensures still_sure { H.sure host.old → H.sure host.new }
     ensures never { H.sure host.old → IsErrOf result CoreErr.HostFault → ⊥ }
 {
@@ -56,8 +55,7 @@ fn interpret_source<H: Host>(
         (H.world host.new)) }
     ensures refused { IfErr result (λ refusal. RefusesSource file (Refuses bytes.now)
         (BeginsMeaning bytes.now) refusal (H.world host.old) (H.world host.new)) }
-    ensures cause { IsCaused (H.faults host.old) (H.faults host.new)
-        (IsErrOf result CoreErr.HostFault) }
+    ensures cause { WorkCause (H.faults host.old) (H.faults host.new) result }
     ensures still_sure { H.sure host.old → H.sure host.new }
     ensures never { H.sure host.old → IsErrOf result CoreErr.HostFault → ⊥ }
 {
@@ -72,8 +70,7 @@ fn interpret_source<H: Host>(
 pub fn interp<H: Host>(alloc: Global, file: FileName, host: &mut H) -> Result<Success, CoreErr>
     ensures works { Works (InterpAnswer file) (MayChange (Some (Command.Interp file)))
         (H.world host.old) (H.world host.new) (status_of result) (note_of result) }
-    ensures cause { IsCaused (H.faults host.old) (H.faults host.new)
-        (IsErrOf result CoreErr.HostFault) }
+    ensures cause { WorkCause (H.faults host.old) (H.faults host.new) result }
     ensures still_sure { H.sure host.old → H.sure host.new }
     ensures missing { H.sure host.old → IsErrOf result CoreErr.HostFault → LacksFile
         (H.world host.old) file }

@@ -16,6 +16,7 @@ mod words;
 
 pub use core_err::{CoreErr, Limit, SourceFault};
 pub use file_name::FileName;
+pub use front::{SourceErr, program_of};
 pub use status::Status;
 pub use success::Success;
 pub use top::impactc;

@@ -1,7 +1,7 @@
 ghost use Rattle.std.specs.Prelude.{◌≡◌, ◌⊎◌, ◌++◌, [], ◌∷◌, codes, string_bytes, IfOk};
 ghost use Rattle.ib_base.specs.Cause.{Rose};
 ghost use Rattle.ib_base.specs.World.{noted};
-ghost use Rattle.impactc_core.specs.Answers.{IsPlain, IsCaused};
+ghost use Rattle.impactc_core.specs.Answers.{IsPlain, NoteCause};
 ghost use Rattle.impactc_core.specs.Notes.{note_of, status_of, outcome_status, success_status, refusal_status, success_note, refusal_note};
 ghost use Rattle.impactc_core.specs.Work.{NoteFor, LeavesNote, Leaves, status_behind};
 
@@ -13,9 +13,7 @@ use std::alloc::{AllocError, Global};
 #[tactic(auto, using(crate::proofs::Noted::host_fault_left, crate::proofs::Noted::no_memory_left))]
 pub fn finish<H: Host>(alloc: Global, host: &mut H, work: &Result<Success, CoreErr>) -> Status
     ensures note { LeavesNote work.now (H.world host.old) (H.world host.new) result }
-    ensures cause { IsCaused (H.faults host.old) (H.faults host.new)
-        (result ≡ Status.HostFault × (status_of work.now ≡ Status.HostFault →
-        ⊥)) }
+    ensures cause { NoteCause (H.faults host.old) (H.faults host.new) (status_of work.now) result }
     ensures sure { H.sure host.old → result ≡ Status.HostFault →
         status_of work.now ≡ Status.HostFault }
 {
@@ -29,9 +27,7 @@ pub fn finish<H: Host>(alloc: Global, host: &mut H, work: &Result<Success, CoreE
 fn finish_plain<H: Host>(alloc: Global, host: &mut H, work: &Result<Success, CoreErr>) -> Status
     requires { IsPlain (status_of work.now) }
     ensures note { LeavesNote work.now (H.world host.old) (H.world host.new) result }
-    ensures cause { IsCaused (H.faults host.old) (H.faults host.new)
-        (result ≡ Status.HostFault × (status_of work.now ≡ Status.HostFault →
-        ⊥)) }
+    ensures cause { NoteCause (H.faults host.old) (H.faults host.new) (status_of work.now) result }
     ensures sure { H.sure host.old → result ≡ Status.HostFault →
         status_of work.now ≡ Status.HostFault }
 {
@@ -79,8 +75,7 @@ fn outcome_status(outcome: Outcome) -> Status
 /// Tries a note once. Where it fails, a status that says so already stays.
 fn leave_note<H: Host>(host: &mut H, note: &[u8], status: Status) -> Status
     ensures left { Leaves note.now status (H.world host.old) (H.world host.new) result }
-    ensures cause { IsCaused (H.faults host.old) (H.faults host.new)
-        (result ≡ Status.HostFault × (status ≡ Status.HostFault → ⊥)) }
+    ensures cause { NoteCause (H.faults host.old) (H.faults host.new) status result }
     ensures sure { H.sure host.old → result ≡ Status.HostFault → status ≡ Status.HostFault }
 {
     match host.note(note) {

@@ -6,7 +6,7 @@ ghost use Rattle.c_ast.specs.Cut.{AreTokens};
 ghost use Rattle.c_typed.specs.Program.{Program as Typed};
 ghost use Rattle.first_code.specs.Made.{IsShort};
 ghost use Rattle.first_form.specs.Meaning.{source_meaning};
-ghost use Rattle.impactc_core.specs.Answers.{IsCaused, MayChange, Works};
+ghost use Rattle.impactc_core.specs.Answers.{WorkCause, MayChange, Works};
 ghost use Rattle.impactc_core.specs.Notes.{status_of, note_of};
 ghost use Rattle.impactc_core.specs.RunAnswers.{BeginsRun, HasFirstForm, RunAnswer};
 ghost use Rattle.impactc_core.specs.Runs.{BeginsOutput, code_meaning};
@@ -37,8 +37,7 @@ fn run_code<H: Host>(alloc: Global, code: &WideCode<Four>, host: &mut H) -> Resu
     ensures broke { IfErr result IsBreak }
     ensures printed { OnErr result (OverHost (BeginsOutput (code_meaning code.now))
         (H.world host.old) (H.world host.new)) }
-    ensures cause { IsCaused (H.faults host.old) (H.faults host.new)
-        (IsErrOf result CoreErr.HostFault) }
+    ensures cause { WorkCause (H.faults host.old) (H.faults host.new) result }
     ensures still_sure { H.sure host.old → H.sure host.new }
     ensures never { H.sure host.old → IsErrOf result CoreErr.HostFault → ⊥ }
 {
@@ -74,8 +73,7 @@ fn run_program<H: Host>(alloc: Global, program: &Program, host: &mut H) -> Resul
     ensures broke { IfErr result IsBreak }
     ensures printed { OnErr result (OverHost (BeginsOutput (source_meaning program.now))
         (H.world host.old) (H.world host.new)) }
-    ensures cause { IsCaused (H.faults host.old) (H.faults host.new)
-        (IsErrOf result CoreErr.HostFault) }
+    ensures cause { WorkCause (H.faults host.old) (H.faults host.new) result }
     ensures still_sure { H.sure host.old → H.sure host.new }
     ensures never { H.sure host.old → IsErrOf result CoreErr.HostFault → ⊥ }
 {
@@ -146,8 +144,7 @@ fn run_source<H: Host>(
         (H.world host.new)) }
     ensures refused { IfErr result (λ refusal. RefusesSource file (RefusesToRun bytes.now)
         (BeginsRun bytes.now) refusal (H.world host.old) (H.world host.new)) }
-    ensures cause { IsCaused (H.faults host.old) (H.faults host.new)
-        (IsErrOf result CoreErr.HostFault) }
+    ensures cause { WorkCause (H.faults host.old) (H.faults host.new) result }
     ensures still_sure { H.sure host.old → H.sure host.new }
     ensures never { H.sure host.old → IsErrOf result CoreErr.HostFault → ⊥ }
 {
@@ -162,8 +159,7 @@ fn run_source<H: Host>(
 pub fn run<H: Host>(alloc: Global, file: FileName, host: &mut H) -> Result<Success, CoreErr>
     ensures works { Works (RunAnswer file) (MayChange (Some (Command.Run file))) (H.world host.old)
         (H.world host.new) (status_of result) (note_of result) }
-    ensures cause { IsCaused (H.faults host.old) (H.faults host.new)
-        (IsErrOf result CoreErr.HostFault) }
+    ensures cause { WorkCause (H.faults host.old) (H.faults host.new) result }
     ensures still_sure { H.sure host.old → H.sure host.new }
     ensures missing { H.sure host.old → IsErrOf result CoreErr.HostFault → LacksFile
         (H.world host.old) file }

@@ -1,6 +1,6 @@
 ghost use Rattle.std.specs.Prelude.{◌≡◌, IfOk, IfErr, IsErrOf};
 ghost use Rattle.ib_base.specs.World.{LacksFile};
-ghost use Rattle.impactc_core.specs.Answers.{IsCaused};
+ghost use Rattle.impactc_core.specs.Answers.{WorkCause};
 ghost use Rattle.impactc_core.specs.Sources.{IsSource};
 ghost use Rattle.impactc_core.specs.Work.{IsReadErr};
 
@@ -20,8 +20,7 @@ pub fn read_source<H: Host>(
     ensures source { IfOk result (λ bytes. IsSource file.now (H.world host.old) bytes.items) }
     ensures refused { IfErr result (IsReadErr file.now (H.world host.old)) }
     ensures same_world { H.world host.new ≡ H.world host.old }
-    ensures cause { IsCaused (H.faults host.old) (H.faults host.new)
-        (IsErrOf result CoreErr.HostFault) }
+    ensures cause { WorkCause (H.faults host.old) (H.faults host.new) result }
     ensures still_sure { H.sure host.old → H.sure host.new }
     ensures missing { H.sure host.old → IsErrOf result CoreErr.HostFault → LacksFile
         (H.world host.old) file.now }

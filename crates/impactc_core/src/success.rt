@@ -1,4 +1,5 @@
 use ib_base::Outcome;
+use itoa::Buffer;
 use std::fmt;
 
 /// What the work of a command came to, where nothing was refused.
@@ -24,7 +25,11 @@ impl fmt::Display for Told {
 
     fn fmt<W: fmt::Write>(&self, f: &mut fmt::Formatter<W>) -> fmt::Result {
         match self.0 {
-            Outcome::Ended(result) => write!(f, "ended {result}"),
+            Outcome::Ended(result) => {
+                let mut buffer = Buffer::new();
+                let result = buffer.format(result);
+                write!(f, "ended {result}")
+            }
             Outcome::Faulted { place, kind } => write!(f, "fault {kind} at {place}"),
             Outcome::Spent => f.write_str("spent"),
         }
@@ -46,6 +51,8 @@ impl fmt::Display for Success {
             }
             Success::Ran { outcome, cycles } => {
                 let told = Told(*outcome);
+                let mut buffer = Buffer::new();
+                let cycles = buffer.format(*cycles);
                 write!(f, "{told} after {cycles} cycles")
             }
         }

@@ -1,6 +1,6 @@
 ghost use Rattle.std.specs.Prelude.{◌≡◌, ◌⊎◌, map, string_bytes, Some, IfOk, IfErr, OnErr, IsErrOf};
 ghost use Rattle.ib_base.specs.Cause.{Rose};
-ghost use Rattle.impactc_core.specs.Answers.{AnswerOf, MayChange, LacksInput, CanWork, HasWorked, Works, Answers, IsCaused};
+ghost use Rattle.impactc_core.specs.Answers.{AnswerOf, MayChange, LacksInput, CanWork, HasWorked, Works, Answers, IsCaused, WorkCause};
 ghost use Rattle.impactc_core.specs.declared.words.Command.{Command};
 ghost use Rattle.impactc_core.specs.Notes.{status_of, note_of};
 ghost use Rattle.impactc_core.specs.Words.{reading};
@@ -14,14 +14,14 @@ use ib_base::Host;
 use std::alloc::Global;
 
 /// The compiler as a whole: does what the words after the program's name ask for, over a host, and leaves one note.
-#[tactic(auto, using(crate::proofs::Topped::topped, crate::proofs::Topped::rose_after))]
+#[tactic(auto, using(crate::proofs::Topped::topped))]
 pub fn impactc<H: Host>(alloc: Global, words: &[String], host: &mut H) -> Status
     // What the words ask for is done, printed and noted, and the status says so.
     ensures answers { let read = reading (map string_bytes words.now) in
         Answers (AnswerOf read) (MayChange read) (H.world host.old) (H.world host.new) result }
 
-    // The host is at fault only where its count of faults rose.
-    ensures cause { IsCaused (H.faults host.old) (H.faults host.new) (result ≡ Status.HostFault) }
+    // The host is at fault only where its count of faults rose, and where nothing else was wanting the count stands.
+    ensures cause { IsCaused (H.faults host.old) (H.faults host.new) result }
 
     // On a host that cannot fail, only a file that is not there is its fault.
     ensures sure { H.sure host.old → result ≡ Status.HostFault →
@@ -43,8 +43,7 @@ fn perform<H: Host>(alloc: Global, words: &[String], host: &mut H) -> Result<Suc
     ensures works { let read = reading (map string_bytes words.now) in
         Works (AnswerOf read) (MayChange read) (H.world host.old) (H.world host.new)
         (status_of result) (note_of result) }
-    ensures cause { IsCaused (H.faults host.old) (H.faults host.new)
-        (IsErrOf result CoreErr.HostFault) }
+    ensures cause { WorkCause (H.faults host.old) (H.faults host.new) result }
     ensures still_sure { H.sure host.old → H.sure host.new }
     ensures missing { H.sure host.old → IsErrOf result CoreErr.HostFault →
         LacksInput (reading (map string_bytes words.now)) (H.world host.old) }

@@ -3,6 +3,7 @@ ghost use Rattle.impactc_core.specs.Words.{reading, file_of, command_on};
 
 use crate::FileName;
 use std::alloc::{AllocError, Global};
+use thiserror::Error;
 
 /// What the words of a call ask for.
 #[derive(Debug, Drop)]
@@ -16,9 +17,11 @@ pub enum Command {
 }
 
 /// Why words name no command.
-#[derive(Clone, Copy, PartialEq, Eq, Debug)]
+#[derive(Clone, Copy, PartialEq, Eq, Debug, Error)]
 pub enum WordsErr {
+    #[error("the words ask for no command")]
     Usage,
+    #[error("there is not enough memory to read the words")]
     NoMemory,
 }
 

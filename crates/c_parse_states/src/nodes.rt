@@ -9,24 +9,28 @@ use c_ast::{AssignOp, BinaryOp, CType, Expr, ForStart, Part, PostfixOp, Stmt, Un
 use ib_base::{Place, Text};
 use std::alloc::{AllocError, Global};
 
+/// An expression in its box.
 pub fn boxed(alloc: Global, expr: Expr) -> Result<Box<Expr>, AllocError>
     ensures { IfOk result (λ made. made.value ≡ expr) }
 {
     Ok(Box::new(alloc, expr)?)
 }
 
+/// A statement in its box.
 pub fn boxed_stmt(alloc: Global, stmt: Stmt) -> Result<Box<Stmt>, AllocError>
     ensures { IfOk result (λ made. made.value ≡ stmt) }
 {
     Ok(Box::new(alloc, stmt)?)
 }
 
+/// One more star.
 pub fn pointer(alloc: Global, to: CType) -> Result<CType, AllocError>
     ensures { IfOk result (λ made. type_of made ≡ pointer (type_of to)) }
 {
     Ok(CType::Pointer(Box::new(alloc, to)?))
 }
 
+/// `name(arguments)`
 pub fn call(
     alloc: Global,
     place: Place,
@@ -46,6 +50,7 @@ pub fn call(
     Ok(made)
 }
 
+/// Two or more, with commas between them.
 pub fn comma(alloc: Global, place: Place, parts: Vec<Expr>) -> Result<Box<Expr>, AllocError>
     ensures { IfOk result (λ made. expr_of made.value ≡ comma place (exps (map expr_of parts.items))) }
 {
@@ -53,6 +58,7 @@ pub fn comma(alloc: Global, place: Place, parts: Vec<Expr>) -> Result<Box<Expr>,
     Ok(made)
 }
 
+/// Statements in braces.
 pub fn block(alloc: Global, place: Place, stmts: Vec<Stmt>) -> Result<Box<Stmt>, AllocError>
     ensures { IfOk result (λ made. stmt_of made.value ≡ block place (stms (map stmt_of stmts.items))) }
 {
@@ -60,6 +66,7 @@ pub fn block(alloc: Global, place: Place, stmts: Vec<Stmt>) -> Result<Box<Stmt>,
     Ok(made)
 }
 
+/// `base[at]`
 pub fn index(
     alloc: Global,
     place: Place,
@@ -78,6 +85,7 @@ pub fn index(
     )
 }
 
+/// `++` or `--` behind its operand.
 pub fn postfix(
     alloc: Global,
     place: Place,
@@ -89,6 +97,7 @@ pub fn postfix(
     boxed(alloc, Expr::Postfix { place, op, operand })
 }
 
+/// An operator before its operand.
 pub fn unary(
     alloc: Global,
     place: Place,
@@ -100,6 +109,7 @@ pub fn unary(
     boxed(alloc, Expr::Unary { place, op, operand })
 }
 
+/// `(to)operand`
 pub fn cast(
     alloc: Global,
     place: Place,
@@ -111,6 +121,7 @@ pub fn cast(
     boxed(alloc, Expr::Cast { place, to, operand })
 }
 
+/// An operator between two operands.
 pub fn binary(
     alloc: Global,
     place: Place,
@@ -131,6 +142,7 @@ pub fn binary(
     )
 }
 
+/// `test ? then : other`
 pub fn conditional(
     alloc: Global,
     place: Place,
@@ -151,6 +163,7 @@ pub fn conditional(
     )
 }
 
+/// `=`, or a mark that combines it with a binary operator.
 pub fn assign(
     alloc: Global,
     place: Place,
@@ -171,6 +184,7 @@ pub fn assign(
     )
 }
 
+/// `if` without `else`.
 pub fn if_then(
     alloc: Global,
     place: Place,
@@ -183,6 +197,7 @@ pub fn if_then(
     boxed_stmt(alloc, Stmt::If { place, test, then })
 }
 
+/// `if` with `else`.
 pub fn if_else(
     alloc: Global,
     place: Place,
@@ -204,6 +219,7 @@ pub fn if_else(
     )
 }
 
+/// `while (test) body`
 pub fn while_loop(
     alloc: Global,
     place: Place,
@@ -216,6 +232,7 @@ pub fn while_loop(
     boxed_stmt(alloc, Stmt::While { place, test, body })
 }
 
+/// `do body while (test);`
 pub fn do_while(
     alloc: Global,
     place: Place,
@@ -228,6 +245,7 @@ pub fn do_while(
     boxed_stmt(alloc, Stmt::DoWhile { place, body, test })
 }
 
+/// `for (start; test; next) body`
 pub fn for_loop(
     alloc: Global,
     place: Place,

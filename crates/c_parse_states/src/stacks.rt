@@ -9,6 +9,7 @@ use crate::frames::{Arm, Frame, Frames, Goal, Inner, Innermost, Outer};
 use c_ast::Expr;
 use std::alloc::{AllocError, Global};
 
+/// One more statement is open.
 #[tactic(auto, using(crate::proofs::StackLemmas::arms_snoc))]
 pub fn within(outer: Outer, arm: Arm) -> Result<Outer, AllocError>
     ensures { IfOk result (λ made. outer_of made ≡ arm_of arm (outer_of outer)) }
@@ -19,6 +20,7 @@ pub fn within(outer: Outer, arm: Arm) -> Result<Outer, AllocError>
     Ok(Outer { head, front, arms })
 }
 
+/// The innermost statement that is open, or the body of the function.
 #[tactic(auto, using(crate::proofs::StackLemmas::arms_snoc))]
 pub fn innermost(outer: Outer) -> Innermost
     ensures { IsInnermost result (outer_of outer) }
@@ -31,6 +33,7 @@ pub fn innermost(outer: Outer) -> Innermost
     }
 }
 
+/// One more frame.
 #[tactic(auto, using(crate::proofs::StackLemmas::frames_snoc))]
 pub fn under(frames: Frames, frame: Frame) -> Result<Frames, AllocError>
     ensures { IfOk result (λ made. frames_of made ≡ frame_of frame (frames_of frames)) }
@@ -41,6 +44,7 @@ pub fn under(frames: Frames, frame: Frame) -> Result<Frames, AllocError>
     Ok(Frames { goal, frames })
 }
 
+/// The innermost frame, or what the outermost expression is for.
 #[tactic(auto, using(crate::proofs::StackLemmas::frames_snoc))]
 pub fn inner(frames: Frames) -> Inner
     ensures { IsInner result (frames_of frames) }
@@ -61,6 +65,7 @@ pub fn outermost(alloc: Global, goal: Goal) -> Result<Frames, AllocError>
     Ok(alone(alloc, goal))
 }
 
+/// No frame but what the expression is for.
 pub fn alone(alloc: Global, goal: Box<Goal>) -> Frames
     ensures { frames_of result ≡ goal_of goal.value }
 {

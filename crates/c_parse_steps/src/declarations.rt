@@ -56,6 +56,7 @@ fn with_decl(declaring: Declaring, last: Declarator) -> Result<Declaring, AllocE
     })
 }
 
+/// The declarators with one more, which has its initialiser.
 pub fn with_init(made: Made, init: Init) -> Result<Declaring, AllocError>
     ensures { IfOk result (λ all. declaring_of all ≡ M.with_init (made_of made) (init_of init)) }
 {

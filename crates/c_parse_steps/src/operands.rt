@@ -14,12 +14,14 @@ use c_parse_states::stacks::{shut, under};
 use ib_base::Place;
 use std::alloc::{AllocError, Global};
 
+/// An assignment begins.
 pub fn begins_assign(frames: Frames) -> Result<Frames, AllocError>
     ensures { IfOk result (λ made. frames_of made ≡ M.begins_assign (frames_of frames)) }
 {
     under(frames, Frame::Cond(true))
 }
 
+/// An expression begins, which may be a list.
 pub fn begins_expr(frames: Frames) -> Result<Frames, AllocError>
     ensures { IfOk result (λ made. frames_of made ≡ M.begins_expr (frames_of frames)) }
 {

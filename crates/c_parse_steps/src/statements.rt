@@ -45,6 +45,7 @@ pub fn with_local(
     with_stmt(inside, Stmt::Local { place, declarators })
 }
 
+/// What ends a part that may be missing.
 pub fn closer(role: &Role) -> Mark
     ensures { result ≡ M.closer (role_of role.now) }
 {
@@ -78,6 +79,7 @@ fn for_body(
     Ok(State::Stmt(within(outer, Arm::For(place, start, test, next))?))
 }
 
+/// Behind such a part.
 pub fn goes_on(alloc: Global, role: Role, part: Part) -> Result<State, AllocError>
     ensures { IfOk result (λ next. state_of next ≡ M.goes_on (role_of role) (part_of part)) }
 {

@@ -9,44 +9,35 @@ pub(crate) struct Failing {
     pub kept: usize,
 }
 
-/// What a call's line says: the words, the host's failure, the status, and the note as it stands there.
+/// What a call's line says: the words, how the host fails, the status, and the note as it stands there.
 #[derive(Clone, Copy)]
 pub(crate) struct Line<'a> {
     pub words: &'a str,
-    pub failing: Option<Failing>,
+    pub failing: &'a str,
     pub status: u8,
     pub note: &'a str,
 }
 
 /// `call N fails after K`.
-fn read_failing(piece: &str) -> Option<Failing> {
+pub(crate) fn read_failing(piece: &str) -> Option<Failing> {
     let (call, kept) = piece.strip_prefix("call ")?.split_once(" fails after ")?;
     let call = call.parse::<u64>().ok()?;
     let kept = kept.parse::<usize>().ok()?;
     Some(Failing { call, kept })
 }
 
-/// `WORDS -> STATUS NOTE` or `WORDS, call N fails after K -> STATUS NOTE`.
+/// `WORDS -> STATUS NOTE`. Behind the words and a comma may stand how the host fails.
 pub(crate) fn read_line(line: &str) -> Option<Line<'_>> {
     let (asked, answered) = line.split_once("->")?;
     let answered = answered.trim();
     let (status, note) = answered.split_once(' ').unwrap_or((answered, ""));
-    let status = status.parse::<u8>().ok()?;
-    let note = note.trim();
-    match asked.split_once(", ") {
-        None => Some(Line {
-            words: asked,
-            failing: None,
-            status,
-            note,
-        }),
-        Some((words, failing)) => Some(Line {
-            words,
-            failing: Some(read_failing(failing.trim())?),
-            status,
-            note,
-        }),
-    }
+    let (words, failing) = asked.split_once(", ").unwrap_or((asked, ""));
+    Some(Line {
+        words,
+        failing,
+        status: status.parse::<u8>().ok()?,
+        note: note.trim(),
+    })
 }
 
 /// The words of a command. `""` is the empty word.

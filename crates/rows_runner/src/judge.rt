@@ -1,4 +1,4 @@
-use crate::calls::{Line, note, read_line, words};
+use crate::calls::{Line, note, read_failing, read_line, words};
 use crate::cases::{Asked, Case, case_of, text_of};
 use crate::command::Command;
 use crate::plan::Plan;
@@ -45,14 +45,17 @@ fn difference<C: Command>(
     };
     let stated = note(alloc, line.note, &call.line)?;
     let words = words(alloc, line.words)?;
-    let mut host = host(alloc, case, &line)?;
+    let mut host = host(alloc, case)?;
+    if !plan_failures(&mut host, line.failing)? {
+        return Err(unreadable(&call.line));
+    }
     let status = command.call(alloc, words.as_slice(), &mut host);
     drop(words);
     Ok(first_wrong(alloc, call, &line, stated.as_slice(), status, &host)?)
 }
 
 /// A host with what is given.
-fn host(alloc: Global, case: &Case, line: &Line<'_>) -> Result<MemHost, AllocError> {
+fn host(alloc: Global, case: &Case) -> Result<MemHost, AllocError> {
     let input = text_of(&case.given, "input").unwrap_or(b"");
     let mut host = MemHost::new(alloc, input)?;
     for text in &case.given {
@@ -60,10 +63,21 @@ fn host(alloc: Global, case: &Case, line: &Line<'_>) -> Result<MemHost, AllocErr
             host.add_file(text.key.as_str(), text.bytes.as_slice())?;
         }
     }
-    if let Some(failing) = line.failing {
-        host.fail_at(failing.call, failing.kept)?;
-    }
     Ok(host)
+}
+
+/// Lets the host fail as the text says, and gives whether it can be read.
+fn plan_failures(host: &mut MemHost, text: &str) -> Result<bool, AllocError> {
+    if text.is_empty() {
+        return Ok(true);
+    }
+    for piece in text.split(", ") {
+        match read_failing(piece.trim()) {
+            Some(failing) => host.fail_at(failing.call, failing.kept)?,
+            None => return Ok(false),
+        }
+    }
+    Ok(true)
 }
 
 /// What is not as stated, the first of it: the status, the note, the output, the input that is left, or a file.

@@ -7,7 +7,7 @@ use Rattle.c_ast.specs.Trees as c
 use Rattle.c_typed.specs.declared.types.ValueType.{ValueType}
 use Rattle.c_typed.specs.declared.types.ValueType.TheVariants as v
 use Rattle.c_typed.specs.ValueTypes.{written}
-use Rattle.c_types_operators.specs.declared.rule.Rule.TheVariants.{BadType}
+use Rattle.c_typed.specs.declared.rule.Rule.TheVariants.{BadType}
 use Rattle.c_types_operators.specs.declared.rule.Breach.{Breach}
 use Rattle.c_types_homes.specs.Declarators.{is_bad_length, declared_place, param_place}
 use Rattle.c_types_operators.specs.Parts.{broken_if}

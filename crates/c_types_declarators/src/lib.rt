@@ -2,7 +2,5 @@
 #![tactic(auto)]
 
 mod declarators;
-#[cfg(test)]
-mod tests;
 
 pub use declarators::{is_bad_declarator, is_bad_param, is_on_void};

@@ -6,7 +6,7 @@ use Rattle.c_typed.specs.declared.program.Home.{Home}
 use Rattle.c_layout.specs.declared.shape.Shape.{Shape}
 use Rattle.c_types_homes.specs.Declarators.{declared_name, declared_place, declared_shape, init_of}
 use Rattle.c_scopes.specs.Scopes.{is_own}
-use Rattle.c_types_operators.specs.declared.rule.Rule.TheVariants.{Redeclared, BadType}
+use Rattle.c_typed.specs.declared.rule.Rule.TheVariants.{Redeclared, BadType}
 use Rattle.c_types_operators.specs.declared.rule.Breach.{Breach}
 use Rattle.c_types_operators.specs.declared.scope.Lives.{Lives}
 use Rattle.c_types_operators.specs.Rules.{first_from}

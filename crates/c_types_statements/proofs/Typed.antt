@@ -4,7 +4,7 @@ use Rattle.std.specs.Option.{option_map}
 use Rattle.std.proofs.lemmas.List.{append-nil, append_assoc}
 use Rattle.ib_meaning.specs.declared.place.Place.{Place}
 use Rattle.c_layout.specs.Layout.{Texts}
-use Rattle.c_types_operators.specs.declared.rule.Rule.{Rule}
+use Rattle.c_typed.specs.declared.rule.Rule.{Rule}
 use Rattle.c_types_operators.specs.declared.rule.Breach.{Breach}
 use Rattle.c_types_operators.specs.Rules.{Judged, Fine, Broken, breaches, first_from}
 use Rattle.c_types_operators.specs.Scopes.{Scope, inner, outer}

@@ -15,13 +15,13 @@ use Rattle.c_layout.specs.declared.shape.Shape.TheVariants.{Scalar, Array}
 use Rattle.c_layout.specs.Layout.{Texts}
 use Rattle.c_types_homes.specs.Addressed.{variables, started_in}
 use Rattle.c_types_homes.specs.Declarators.{declared_name, declared_place, declared_shape, init_of}
-use Rattle.c_types_operators.specs.declared.rule.Rule.TheVariants.{Redeclared, OutsideALoop, ReturnValue, WrongInitialiser}
+use Rattle.c_typed.specs.declared.rule.Rule.TheVariants.{Redeclared, OutsideALoop, ReturnValue, WrongInitialiser}
 use Rattle.c_types_operators.specs.declared.rule.Breach.{Breach}
 use Rattle.c_types_operators.specs.declared.scope.Lives.{Lives}
 use Rattle.c_types_operators.specs.declared.scope.Lives.TheVariants.{InSlot, InMemory}
 use Rattle.c_types_operators.specs.Rules.{Judged, Fine}
 use Rattle.c_types_operators.specs.Scopes.{Scope, inner, with_variable}
-use Rattle.c_types_operators.specs.Operators.{is_void}
+use Rattle.c_typed.specs.ValueTypes.{is_void}
 use Rattle.c_types_expressions.specs.Expressions.{literals, literals_of, value, values, stored_value, tested_value, effect}
 use Rattle.c_types_declarators.specs.Declarations.{declarator_breaches}
 use Rattle.c_types_operators.specs.Parts.{broken_if, ◌<*>◌, also, misplaced}

@@ -5,10 +5,9 @@ ghost use Rattle.std.specs.Option.{option_map};
 ghost use Rattle.c_ast.specs.TreeViews as source;
 ghost use Rattle.c_ast.specs.Trees as c;
 ghost use Rattle.c_typed.specs.Tree as t;
-ghost use Rattle.c_typed.specs.Views.{part_of, stmt_of};
+ghost use Rattle.c_typed.specs.Views.{boxed_stmt_of, part_of, stmt_of};
 ghost use Rattle.c_types_operators.specs.Rules.{Fine};
 ghost use Rattle.c_types_operators.specs.Scopes.{inner};
-ghost use Rattle.c_types_operators.specs.Operators.{is_void};
 ghost use Rattle.c_types_expressions.specs.Expressions.{literals, effect};
 ghost use Rattle.c_types_operators.specs.Parts.{◌<*>◌};
 ghost use Rattle.c_types_statements.specs.Statements.{number, past, past_texts, literals_maybe, with_names, with_locals, statement, statements, locals, returned, loop_only};
@@ -17,9 +16,8 @@ ghost use Rattle.c_types_statements.specs.Keeping.{Seen, Types, rows_of, past_al
 use crate::nodes;
 use crate::nodes::Head;
 use crate::walk::Walk;
-use c_ast::{Base, Declarator, Expr, ForStart, Part, Stmt as Source};
-use c_typed::{Home, Stmt, ValueType};
-use c_types_operators::rule::Rule;
+use c_ast::{Declarator, Expr, ForStart, Part, Stmt as Source};
+use c_typed::{Home, Rule, Stmt, ValueType};
 use ib_base::Place;
 use std::alloc::AllocError;
 
@@ -29,12 +27,6 @@ use std::alloc::AllocError;
 pub struct Context<'h> {
     pub result: ValueType,
     pub homes: &'h [Home],
-}
-
-fn is_void(ty: ValueType) -> bool
-    ensures { result ≡ is_void ty }
-{
-    matches!(ty, ValueType::Base(Base::Void))
 }
 
 impl<'a, 's> Walk<'a, 's> {
@@ -79,7 +71,7 @@ impl<'a, 's> Walk<'a, 's> {
         ensures { let x = source.expr_of e.now in
             IfOk result (λ answer. Types self.old self.new self.old.scope (past_texts (literals x) self.old.at) (returned gives self.old.scope self.old.at.texts place (c.given x)) (option_map part_of answer)) }
     {
-        if is_void(gives) {
+        if gives.is_void() {
             self.wrong_value(Rule::ReturnValue, place, e)?;
             return Ok(None);
         }
@@ -99,7 +91,7 @@ impl<'a, 's> Walk<'a, 's> {
     {
         match value {
             Part::Missing => {
-                let fine = self.keeps(!is_void(gives), Rule::ReturnValue, place);
+                let fine = self.keeps(!gives.is_void(), Rule::ReturnValue, place);
                 Ok(nodes::kept_if(fine, Some(c_typed::Part::Missing)))
             }
             Part::Given(e) => self.returned_value(gives, place, e),
@@ -141,14 +133,15 @@ impl<'a, 's> Walk<'a, 's> {
         context: Context<'_>,
         in_loop: bool,
         stmt: &'a Source,
-    ) -> Result<Option<Stmt>, AllocError>
+    ) -> Result<Option<Box<Stmt>>, AllocError>
         ensures { let s = source.stmt_of stmt.now in let around = context.entry in
-            IfOk result (λ answer. Types self.old self.new self.old.scope (past s self.old.at) (statement around.result around.homes.now (inner self.old.scope) self.old.at in_loop s) (option_map stmt_of answer)) }
+            IfOk result (λ answer. Types self.old self.new self.old.scope (past s self.old.at) (statement around.result around.homes.now (inner self.old.scope) self.old.at in_loop s) (option_map boxed_stmt_of answer)) }
     {
         self.enter()?;
         let made = self.stmt(context, in_loop, stmt)?;
         self.leave();
-        Ok(made)
+        let held = nodes::boxed(self.alloc, made)?;
+        Ok(held)
     }
 
     #[cycle(statements)]
@@ -201,8 +194,7 @@ impl<'a, 's> Walk<'a, 's> {
         let number = self.number(place)?;
         let x = self.tested(test)?;
         let a = self.inner(context, in_loop, body)?;
-        let made = nodes::if_then(self.alloc, number, x, a)?;
-        Ok(made)
+        Ok(nodes::if_then(number, x, a))
     }
 
     #[cycle(statements)]
@@ -222,8 +214,7 @@ impl<'a, 's> Walk<'a, 's> {
         let x = self.tested(test)?;
         let a = self.inner(context, in_loop, body)?;
         let b = self.inner(context, in_loop, other)?;
-        let made = nodes::if_else(self.alloc, number, x, a, b)?;
-        Ok(made)
+        Ok(nodes::if_else(number, x, a, b))
     }
 
     #[cycle(statements)]
@@ -240,8 +231,7 @@ impl<'a, 's> Walk<'a, 's> {
         let number = self.number(place)?;
         let x = self.tested(test)?;
         let a = self.inner(context, true, body)?;
-        let made = nodes::while_loop(self.alloc, number, x, a)?;
-        Ok(made)
+        Ok(nodes::while_loop(number, x, a))
     }
 
     #[cycle(statements)]
@@ -258,8 +248,7 @@ impl<'a, 's> Walk<'a, 's> {
         let number = self.number(place)?;
         let a = self.inner(context, true, body)?;
         let x = self.tested(test)?;
-        let made = nodes::do_while(self.alloc, number, a, x)?;
-        Ok(made)
+        Ok(nodes::do_while(number, a, x))
     }
 
     #[cycle(statements)]
@@ -287,8 +276,7 @@ impl<'a, 's> Walk<'a, 's> {
             test: x,
             next: y,
         };
-        let made = nodes::for_loop(self.alloc, number, head, a)?;
-        Ok(made)
+        Ok(nodes::for_loop(number, head, a))
     }
 
     #[cycle(statements)]

@@ -4,9 +4,9 @@ ghost use Rattle.std.specs.Prelude.{◌≡◌, ◌++◌, ◌∷◌, map, IfOk, O
 ghost use Rattle.std.specs.Option.{option_map};
 ghost use Rattle.c_ast.specs.TreeViews as source;
 ghost use Rattle.c_ast.specs.Trees as c;
-ghost use Rattle.c_typed.specs.Views.{expr_of, part_of};
+ghost use Rattle.c_typed.specs.Views.{boxed_of, part_of};
 ghost use Rattle.c_types_homes.specs.Declarators.{declared_name, declared_place};
-ghost use Rattle.c_types_operators.specs.declared.rule.Rule.TheVariants.{WrongInitialiser};
+ghost use Rattle.c_typed.specs.declared.rule.Rule.TheVariants.{WrongInitialiser};
 ghost use Rattle.c_types_operators.specs.Rules.{breaches};
 ghost use Rattle.c_types_operators.specs.Scopes.{with_variable};
 ghost use Rattle.c_types_expressions.specs.Expressions.{literals, literals_of, value, values};
@@ -20,10 +20,9 @@ use crate::nodes;
 use crate::walk::Walk;
 use c_ast::{Declarator, ForStart, Init};
 use c_layout::Shape;
-use c_typed::{Expr, Home, Part, Storage, ValueType};
+use c_typed::{Expr, Home, Part, Rule, Storage, ValueType};
 use c_types_declarators::is_bad_declarator;
 use c_types_homes::shape_of;
-use c_types_operators::rule::Rule;
 use c_types_operators::scope::{Lives, Variable};
 use ib_base::Place;
 use std::alloc::AllocError;
@@ -86,12 +85,12 @@ impl<'a, 's> Walk<'a, 's> {
         place: Place,
         ty: ValueType,
         init: &'a Init,
-    ) -> Result<Option<Expr>, AllocError>
+    ) -> Result<Option<Box<Expr>>, AllocError>
         ensures { let x = source.init_of init.now in
-            IfOk result (λ answer. Types self.old self.new self.old.scope (past_texts (literals_init x) self.old.at) (first_value self.old.scope self.old.at.texts place ty x) (option_map expr_of answer)) }
+            IfOk result (λ answer. Types self.old self.new self.old.scope (past_texts (literals_init x) self.old.at) (first_value self.old.scope self.old.at.texts place ty x) (option_map boxed_of answer)) }
     {
         match init {
-            Init::Nothing => Ok(Some(Expr::Constant { ty, value: 0 })),
+            Init::Nothing => nodes::zero(self.alloc, ty),
             Init::Value(e) => self.stored(ty, e),
             Init::List(list) => {
                 self.wrong_values(place, list)?;

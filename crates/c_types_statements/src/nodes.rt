@@ -1,16 +1,16 @@
-//! Statements and what they store, made of their parts where all of these are there.
+//! Statements and what they store, made of their parts where all of these are there. Trees are
+//! boxed as they come, and put together where nothing can fail any more.
 
 ghost use Rattle.std.specs.Prelude.{◌≡◌, Some, None, IfOk, if◌then◌else◌};
 ghost use Rattle.std.specs.Option.{option_map};
 ghost use Rattle.c_typed.specs.Tree as t;
-ghost use Rattle.c_typed.specs.Views.{expr_of, part_of, stmt_of};
+ghost use Rattle.c_typed.specs.Views.{boxed_of, boxed_stmt_of, expr_of, part_of, stmt_of};
 ghost use Rattle.c_types_operators.specs.Operators.{and_then};
 ghost use Rattle.c_types_operators.specs.Views.{exprs_of};
-ghost use Rattle.c_types_statements.specs.Statements.{as_list, stored_at, given_stored, if_of, if_else_of, while_of, do_of, for_of};
+ghost use Rattle.c_types_statements.specs.Statements.{as_list, zero_of, stored_at, given_stored, if_of, if_else_of, while_of, do_of, for_of};
 ghost use Rattle.c_types_statements.specs.Keeping.{◌<?>◌, rows_of, and_given, and_statement};
 
 use c_typed::{Expr, Home, Part, Stmt, Storage, ValueType};
-use c_types_operators::calls::both;
 use std::alloc::{AllocError, Global};
 
 /// A part, where no rule is broken beside it.
@@ -23,9 +23,27 @@ pub(crate) fn kept_if<T: Drop>(fine: bool, x: Option<T>) -> Option<T>
     None
 }
 
+/// A statement in a box, where there is one.
+pub(crate) fn boxed(alloc: Global, x: Option<Stmt>) -> Result<Option<Box<Stmt>>, AllocError>
+    ensures { IfOk result (λ made. option_map boxed_stmt_of made ≡ option_map stmt_of x) }
+{
+    match x {
+        Some(x) => Ok(Some(Box::new(alloc, x)?)),
+        None => Ok(None),
+    }
+}
+
+/// What a scalar holds that is given no value.
+pub(crate) fn zero(alloc: Global, ty: ValueType) -> Result<Option<Box<Expr>>, AllocError>
+    ensures { IfOk result (λ made. option_map boxed_of made ≡ Some (zero_of ty)) }
+{
+    let zero = Box::new(alloc, Expr::Constant { ty, value: 0 })?;
+    Ok(Some(zero))
+}
+
 /// An expression that may be missing.
-pub(crate) fn given(x: Option<Expr>) -> Option<Part>
-    ensures { option_map part_of result ≡ (Some t.given <?> option_map expr_of x) }
+pub(crate) fn given(x: Option<Box<Expr>>) -> Option<Part>
+    ensures { option_map part_of result ≡ (Some t.given <?> option_map boxed_of x) }
 {
     match x {
         Some(x) => Some(Part::Given(x)),
@@ -41,12 +59,12 @@ pub(crate) fn as_list(alloc: Global, x: Option<Part>) -> Result<Option<Vec<Expr>
 }
 
 #[tactic(auto, using(crate::proofs::Rows::exps_snoc))]
-fn pushed(list: Option<Vec<Expr>>, x: Expr) -> Result<Option<Vec<Expr>>, AllocError>
-    ensures { IfOk result (λ made. option_map exprs_of made ≡ (Some and_then <?> option_map exprs_of list <?> Some (expr_of x))) }
+fn pushed(list: Option<Vec<Expr>>, x: Box<Expr>) -> Result<Option<Vec<Expr>>, AllocError>
+    ensures { IfOk result (λ made. option_map exprs_of made ≡ (Some and_then <?> option_map exprs_of list <?> Some (expr_of x.value))) }
 {
     match list {
         Some(mut list) => {
-            list.push(x)?;
+            list.push(Box::into_inner(x))?;
             Ok(Some(list))
         }
         None => Ok(None),
@@ -75,20 +93,21 @@ pub(crate) fn and_statement(
 ) -> Result<Option<Vec<Stmt>>, AllocError>
     ensures { IfOk result (λ made. option_map rows_of made ≡ (Some and_statement <?> option_map rows_of list <?> option_map stmt_of x)) }
 {
-    match both(list, x) {
-        Some((mut list, x)) => {
-            list.push(x)?;
-            Ok(Some(list))
-        }
-        None => Ok(None),
-    }
+    let Some(mut list) = list else {
+        drop(x);
+        return Ok(None);
+    };
+    let Some(x) = x else {
+        return Ok(None);
+    };
+    list.push(x)?;
+    Ok(Some(list))
 }
 
 /// What stores a value in a variable.
-fn stored_at(alloc: Global, ty: ValueType, home: Home, x: Expr) -> Result<Expr, AllocError>
-    ensures { IfOk result (λ made. expr_of made ≡ stored_at ty home (expr_of x)) }
+fn stored_at(alloc: Global, ty: ValueType, home: Home, value: Box<Expr>) -> Result<Expr, AllocError>
+    ensures { IfOk result (λ made. expr_of made ≡ stored_at ty home (expr_of value.value)) }
 {
-    let value = Box::new(alloc, x)?;
     match home {
         Home::Slot(slot) => Ok(Expr::SetSlot { ty, slot, value }),
         Home::Frame(at) => {
@@ -106,12 +125,16 @@ pub(crate) fn given_stored(
     alloc: Global,
     ty: ValueType,
     home: Home,
-    x: Option<Expr>,
+    x: Option<Box<Expr>>,
 ) -> Result<Option<Part>, AllocError>
-    ensures { IfOk result (λ made. option_map part_of made ≡ (Some (given_stored ty home) <?> option_map expr_of x)) }
+    ensures { IfOk result (λ made. option_map part_of made ≡ (Some (given_stored ty home) <?> option_map boxed_of x)) }
 {
     match x {
-        Some(x) => Ok(Some(Part::Given(stored_at(alloc, ty, home, x)?))),
+        Some(x) => {
+            let stored = stored_at(alloc, ty, home, x)?;
+            let stored = Box::new(alloc, stored)?;
+            Ok(Some(Part::Given(stored)))
+        }
         None => Ok(None),
     }
 }
@@ -126,8 +149,8 @@ pub(crate) fn block(stmts: Option<Vec<Stmt>>) -> Option<Stmt>
     }
 }
 
-pub(crate) fn expression(number: u32, x: Option<Expr>) -> Option<Stmt>
-    ensures { option_map stmt_of result ≡ (Some (t.expression number) <?> option_map expr_of x) }
+pub(crate) fn expression(number: u32, x: Option<Box<Expr>>) -> Option<Stmt>
+    ensures { option_map stmt_of result ≡ (Some (t.expression number) <?> option_map boxed_of x) }
 {
     match x {
         Some(expr) => Some(Stmt::Expr { number, expr }),
@@ -135,79 +158,55 @@ pub(crate) fn expression(number: u32, x: Option<Expr>) -> Option<Stmt>
     }
 }
 
-pub(crate) fn if_then(
-    alloc: Global,
-    number: u32,
-    test: Option<Expr>,
-    body: Option<Stmt>,
-) -> Result<Option<Stmt>, AllocError>
-    ensures { IfOk result (λ made. option_map stmt_of made ≡ (Some (if_of number) <?> option_map expr_of test <?> option_map stmt_of body)) }
+pub(crate) fn if_then(number: u32, test: Option<Box<Expr>>, body: Option<Box<Stmt>>) -> Option<Stmt>
+    ensures { option_map stmt_of result ≡ (Some (if_of number) <?> option_map boxed_of test <?> option_map boxed_stmt_of body) }
 {
-    match both(test, body) {
-        Some((test, body)) => {
-            let then = Box::new(alloc, body)?;
-            Ok(Some(Stmt::If { number, test, then }))
-        }
-        None => Ok(None),
-    }
+    let test = test?;
+    let then = body?;
+    Some(Stmt::If { number, test, then })
 }
 
 pub(crate) fn if_else(
-    alloc: Global,
     number: u32,
-    test: Option<Expr>,
-    body: Option<Stmt>,
-    other: Option<Stmt>,
-) -> Result<Option<Stmt>, AllocError>
-    ensures { IfOk result (λ made. option_map stmt_of made ≡ (Some (if_else_of number) <?> option_map expr_of test <?> option_map stmt_of body <?> option_map stmt_of other)) }
+    test: Option<Box<Expr>>,
+    body: Option<Box<Stmt>>,
+    other: Option<Box<Stmt>>,
+) -> Option<Stmt>
+    ensures { option_map stmt_of result ≡ (Some (if_else_of number) <?> option_map boxed_of test <?> option_map boxed_stmt_of body <?> option_map boxed_stmt_of other) }
 {
-    match both(test, both(body, other)) {
-        Some((test, (body, other))) => {
-            let then = Box::new(alloc, body)?;
-            let other = Box::new(alloc, other)?;
-            Ok(Some(Stmt::IfElse {
-                number,
-                test,
-                then,
-                other,
-            }))
-        }
-        None => Ok(None),
-    }
+    let test = test?;
+    let then = body?;
+    let other = other?;
+    Some(Stmt::IfElse {
+        number,
+        test,
+        then,
+        other,
+    })
 }
 
 pub(crate) fn while_loop(
-    alloc: Global,
     number: u32,
-    test: Option<Expr>,
-    body: Option<Stmt>,
-) -> Result<Option<Stmt>, AllocError>
-    ensures { IfOk result (λ made. option_map stmt_of made ≡ (Some (while_of number) <?> option_map expr_of test <?> option_map stmt_of body)) }
+    test: Option<Box<Expr>>,
+    body: Option<Box<Stmt>>,
+) -> Option<Stmt>
+    ensures { option_map stmt_of result ≡ (Some (while_of number) <?> option_map boxed_of test <?> option_map boxed_stmt_of body) }
 {
-    match both(test, body) {
-        Some((test, body)) => {
-            let body = Box::new(alloc, body)?;
-            Ok(Some(Stmt::While { number, test, body }))
-        }
-        None => Ok(None),
-    }
+    let test = test?;
+    let body = body?;
+    Some(Stmt::While { number, test, body })
 }
 
 pub(crate) fn do_while(
-    alloc: Global,
     number: u32,
-    body: Option<Stmt>,
-    test: Option<Expr>,
-) -> Result<Option<Stmt>, AllocError>
-    ensures { IfOk result (λ made. option_map stmt_of made ≡ (Some (do_of number) <?> option_map stmt_of body <?> option_map expr_of test)) }
+    body: Option<Box<Stmt>>,
+    test: Option<Box<Expr>>,
+) -> Option<Stmt>
+    ensures { option_map stmt_of result ≡ (Some (do_of number) <?> option_map boxed_stmt_of body <?> option_map boxed_of test) }
 {
-    match both(body, test) {
-        Some((body, test)) => {
-            let body = Box::new(alloc, body)?;
-            Ok(Some(Stmt::DoWhile { number, body, test }))
-        }
-        None => Ok(None),
-    }
+    let body = body?;
+    let test = test?;
+    Some(Stmt::DoWhile { number, body, test })
 }
 
 /// The head of a `for`.
@@ -218,27 +217,20 @@ pub(crate) struct Head {
     pub next: Option<Part>,
 }
 
-pub(crate) fn for_loop(
-    alloc: Global,
-    number: u32,
-    head: Head,
-    body: Option<Stmt>,
-) -> Result<Option<Stmt>, AllocError>
-    ensures { IfOk result (λ made. option_map stmt_of made ≡ (Some (for_of number) <?> option_map exprs_of head.start <?> option_map part_of head.test <?> option_map part_of head.next <?> option_map stmt_of body)) }
+pub(crate) fn for_loop(number: u32, head: Head, body: Option<Box<Stmt>>) -> Option<Stmt>
+    ensures { option_map stmt_of result ≡ (Some (for_of number) <?> option_map exprs_of head.start <?> option_map part_of head.test <?> option_map part_of head.next <?> option_map boxed_stmt_of body) }
 {
-    match both(both(head.start, head.test), both(head.next, body)) {
-        Some(((start, test), (next, body))) => {
-            let body = Box::new(alloc, body)?;
-            Ok(Some(Stmt::For {
-                number,
-                start,
-                test,
-                next,
-                body,
-            }))
-        }
-        None => Ok(None),
-    }
+    let start = head.start?;
+    let test = head.test?;
+    let next = head.next?;
+    let body = body?;
+    Some(Stmt::For {
+        number,
+        start,
+        test,
+        next,
+        body,
+    })
 }
 
 pub(crate) fn return_of(number: u32, value: Option<Part>) -> Option<Stmt>

@@ -3,7 +3,7 @@ ghost use Rattle.std.specs.Option.{option_map};
 ghost use Rattle.c_scopes.specs.Scopes.{is_own};
 ghost use Rattle.c_ast.specs.TreeViews as source;
 ghost use Rattle.c_ast.specs.Trees as c;
-ghost use Rattle.c_typed.specs.Views.{expr_of, part_of};
+ghost use Rattle.c_typed.specs.Views.{boxed_of, part_of};
 ghost use Rattle.c_types_operators.specs.Rules.{first_from};
 ghost use Rattle.c_types_operators.specs.Scopes.{inner, outer, with_variable};
 ghost use Rattle.c_types_expressions.specs.Expressions.{literals, literals_of, value, values, stored_value, tested_value, effect};
@@ -13,9 +13,8 @@ ghost use Rattle.c_types_statements.specs.Statements.{numbered, past_texts, lite
 ghost use Rattle.c_types_statements.specs.Keeping.{Seen, Types, Finds, counted};
 
 use crate::nodes::given;
-use c_typed::{Expr, Part, ValueType};
+use c_typed::{Expr, Part, Rule, ValueType};
 use c_types_operators::notes::Notes;
-use c_types_operators::rule::Rule;
 use c_types_operators::scope::{Scope, Variable};
 use ib_base::{Place, Text};
 use std::alloc::{AllocError, Global};
@@ -137,9 +136,9 @@ impl<'a, 's> Walk<'a, 's> {
     }
 
     /// The value of an expression.
-    pub fn value(&mut self, e: &'a c_ast::Expr) -> Result<Option<Expr>, AllocError>
+    pub fn value(&mut self, e: &'a c_ast::Expr) -> Result<Option<Box<Expr>>, AllocError>
         ensures { let x = source.expr_of e.now in
-            IfOk result (λ answer. Types self.old self.new self.old.scope (past_texts (literals x) self.old.at) (value self.old.scope self.old.at.texts x) (option_map expr_of answer)) }
+            IfOk result (λ answer. Types self.old self.new self.old.scope (past_texts (literals x) self.old.at) (value self.old.scope self.old.at.texts x) (option_map boxed_of answer)) }
     {
         let answer = c_types_expressions::value(self.alloc, &self.scope, &mut self.notes, e)?;
         Ok(answer)
@@ -162,9 +161,9 @@ impl<'a, 's> Walk<'a, 's> {
         &mut self,
         ty: ValueType,
         e: &'a c_ast::Expr,
-    ) -> Result<Option<Expr>, AllocError>
+    ) -> Result<Option<Box<Expr>>, AllocError>
         ensures { let x = source.expr_of e.now in
-            IfOk result (λ answer. Types self.old self.new self.old.scope (past_texts (literals x) self.old.at) (stored_value self.old.scope self.old.at.texts ty x) (option_map expr_of answer)) }
+            IfOk result (λ answer. Types self.old self.new self.old.scope (past_texts (literals x) self.old.at) (stored_value self.old.scope self.old.at.texts ty x) (option_map boxed_of answer)) }
     {
         let answer = c_types_expressions::stored_value(
             self.alloc,
@@ -177,9 +176,9 @@ impl<'a, 's> Walk<'a, 's> {
     }
 
     /// A condition.
-    pub(crate) fn tested(&mut self, e: &'a c_ast::Expr) -> Result<Option<Expr>, AllocError>
+    pub(crate) fn tested(&mut self, e: &'a c_ast::Expr) -> Result<Option<Box<Expr>>, AllocError>
         ensures { let x = source.expr_of e.now in
-            IfOk result (λ answer. Types self.old self.new self.old.scope (past_texts (literals x) self.old.at) (tested_value self.old.scope self.old.at.texts x) (option_map expr_of answer)) }
+            IfOk result (λ answer. Types self.old self.new self.old.scope (past_texts (literals x) self.old.at) (tested_value self.old.scope self.old.at.texts x) (option_map boxed_of answer)) }
     {
         let answer = c_types_expressions::tested_value(
             self.alloc,
@@ -191,9 +190,9 @@ impl<'a, 's> Walk<'a, 's> {
     }
 
     /// An expression that stands for what it does.
-    pub(crate) fn effect(&mut self, e: &'a c_ast::Expr) -> Result<Option<Expr>, AllocError>
+    pub(crate) fn effect(&mut self, e: &'a c_ast::Expr) -> Result<Option<Box<Expr>>, AllocError>
         ensures { let x = source.expr_of e.now in
-            IfOk result (λ answer. Types self.old self.new self.old.scope (past_texts (literals x) self.old.at) (effect self.old.scope self.old.at.texts x) (option_map expr_of answer)) }
+            IfOk result (λ answer. Types self.old self.new self.old.scope (past_texts (literals x) self.old.at) (effect self.old.scope self.old.at.texts x) (option_map boxed_of answer)) }
     {
         let answer = c_types_expressions::effect(self.alloc, &self.scope, &mut self.notes, e)?;
         Ok(answer)

@@ -18,8 +18,9 @@ pub inner-returns : goal.inner-returns
 inner-returns t c =
     let s = source.stmt_of c.args.stmt.now in
     let around = c.args.context in
-    scoped (λ Γ at. with_names around.homes.now at.variable s Γ) (past s) (λ Γ at. statement around.result around.homes.now Γ at c.args.in_loop s)
-    (statement_closes around.homes.now s) c.in_ok-enter.ensures c.in_ok-made.ensures c.leave.ensures
+    typed_as refl c.in_ok-held.ensures
+    (scoped (λ Γ at. with_names around.homes.now at.variable s Γ) (past s) (λ Γ at. statement around.result around.homes.now Γ at c.args.in_loop s)
+    (statement_closes around.homes.now s) c.in_ok-enter.ensures c.in_ok-made.ensures c.leave.ensures)
 
 pub block-returns : goal.block-returns
 block-returns t c =
@@ -54,7 +55,7 @@ if_then-returns t c =
     let x = source.expr_of c.args.test.now in
     let a = source.stmt_of c.args.body.now in
     let around = c.args.context in
-    typed_as (past_if c.args.place x a c.args.self.now.at) c.in_ok-made.ensures
+    typed_as (past_if c.args.place x a c.args.self.now.at) c.if_then.ensures
     (with_part (λ Γ at. Γ) (λ Γ at. past a at) (λ Γ at. statement around.result around.homes.now (inner Γ) at c.args.in_loop a)
     (with_part (λ Γ at. Γ) (λ Γ at. past_texts (literals x) at) (λ Γ at. tested_value Γ at.texts x)
     (begins c.args.place if_of c.in_ok-number.ensures.number c.in_ok-number.ensures.noted) c.in_ok-x.ensures) c.in_ok-a.ensures)
@@ -65,7 +66,7 @@ if_else-returns t c =
     let a = source.stmt_of c.args.body.now in
     let b = source.stmt_of c.args.other.now in
     let around = c.args.context in
-    typed_as (past_if_else c.args.place x a b c.args.self.now.at) c.in_ok-made.ensures
+    typed_as (past_if_else c.args.place x a b c.args.self.now.at) c.if_else.ensures
     (with_part (λ Γ at. Γ) (λ Γ at. past b at) (λ Γ at. statement around.result around.homes.now (inner Γ) at c.args.in_loop b)
     (with_part (λ Γ at. Γ) (λ Γ at. past a at) (λ Γ at. statement around.result around.homes.now (inner Γ) at c.args.in_loop a)
     (with_part (λ Γ at. Γ) (λ Γ at. past_texts (literals x) at) (λ Γ at. tested_value Γ at.texts x)
@@ -76,7 +77,7 @@ while_loop-returns t c =
     let x = source.expr_of c.args.test.now in
     let a = source.stmt_of c.args.body.now in
     let around = c.args.context in
-    typed_as (past_while c.args.place x a c.args.self.now.at) c.in_ok-made.ensures
+    typed_as (past_while c.args.place x a c.args.self.now.at) c.while_loop.ensures
     (with_part (λ Γ at. Γ) (λ Γ at. past a at) (λ Γ at. statement around.result around.homes.now (inner Γ) at true a)
     (with_part (λ Γ at. Γ) (λ Γ at. past_texts (literals x) at) (λ Γ at. tested_value Γ at.texts x)
     (begins c.args.place while_of c.in_ok-number.ensures.number c.in_ok-number.ensures.noted) c.in_ok-x.ensures) c.in_ok-a.ensures)
@@ -86,7 +87,7 @@ do_while-returns t c =
     let x = source.expr_of c.args.test.now in
     let a = source.stmt_of c.args.body.now in
     let around = c.args.context in
-    typed_as (past_do c.args.place a x c.args.self.now.at) c.in_ok-made.ensures
+    typed_as (past_do c.args.place a x c.args.self.now.at) c.do_while.ensures
     (with_part (λ Γ at. Γ) (λ Γ at. past_texts (literals x) at) (λ Γ at. tested_value Γ at.texts x)
     (with_part (λ Γ at. Γ) (λ Γ at. past a at) (λ Γ at. statement around.result around.homes.now (inner Γ) at true a)
     (begins c.args.place do_of c.in_ok-number.ensures.number c.in_ok-number.ensures.noted) c.in_ok-a.ensures) c.in_ok-x.ensures)
@@ -98,7 +99,7 @@ for_loop-returns t c =
     let y = source.part_of c.args.next.now in
     let a = source.stmt_of c.args.body.now in
     let around = c.args.context in
-    typed_as (past_for c.args.place s x y a c.args.self.now.at) c.in_ok-made.ensures
+    typed_as (past_for c.args.place s x y a c.args.self.now.at) c.for_loop.ensures
     (left (with_start around.homes.now c.args.self.now.at.variable s) (start_closes around.homes.now c.args.self.now.at.variable s)
     (with_part (λ Γ at. Γ) (λ Γ at. past a at) (λ Γ at. statement around.result around.homes.now (inner Γ) at true a)
     (with_part (λ Γ at. Γ) (λ Γ at. past_texts (literals_maybe y) at) (λ Γ at. effect_part Γ at.texts y)

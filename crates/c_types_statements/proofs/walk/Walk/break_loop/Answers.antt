@@ -1,6 +1,6 @@
 use Rattle.std.proofs.Common.{refl, not}
 use Rattle.c_typed.specs.Tree as t
-use Rattle.c_types_operators.specs.declared.rule.Rule.TheVariants.{OutsideALoop}
+use Rattle.c_typed.specs.declared.rule.Rule.TheVariants.{OutsideALoop}
 use Rattle.c_types_operators.specs.Rules.{Fine}
 use Rattle.c_types_operators.specs.Parts.{broken_if, also}
 use Rattle.c_types_statements.specs.Statements.{numbered}

@@ -1,7 +1,7 @@
 use Rattle.std.proofs.Common.{◌≡◌, refl, false}
 use Rattle.c_ast.specs.TreeViews as source
 use Rattle.c_typed.specs.Tree as t
-use Rattle.c_types_operators.specs.Operators.{is_void}
+use Rattle.c_typed.specs.ValueTypes.{is_void}
 use Rattle.c_types_expressions.specs.Expressions.{literals, stored_value}
 use Rattle.c_types_statements.specs.Statements.{past_texts}
 use Rattle.c_types_statements.proofs.Typed.{makes, with_part, typed_as}

@@ -10,6 +10,7 @@ pub mod Gives
 pub mod Operations
 pub mod Prologue
 pub mod Relation
+pub mod Signs
 pub mod Statements
 pub mod Values
 pub mod Widths

@@ -12,6 +12,7 @@ pub mod Prologue
 pub mod Relation
 pub mod Signs
 pub mod Statements
+pub mod Storing
 pub mod Values
 pub mod Widths
 pub mod Worked

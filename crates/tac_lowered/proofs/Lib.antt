@@ -8,6 +8,7 @@ pub mod Executing
 pub mod Geometry
 pub mod Gives
 pub mod Operations
+pub mod Passing
 pub mod Prologue
 pub mod Relation
 pub mod Signs

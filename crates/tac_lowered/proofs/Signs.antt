@@ -69,15 +69,15 @@ module _ (C : Spot) where
       let h3 = second_has C b (does s act) x n o1 rest h23 in
       both_follows C a (both b (does s act)) x n o rest regs t _
       (pa.by x o (items (both b (does s act)) x n o1 ++ rest) (first_has C a (both b (does s act)) x n o rest h) d dc (λ v. k (g v)) regs t qd mt (λ v regs1 u f st.
-          let regs2 = slice_set regs1 (r + 1) c in
-          let f2 = after_set C r (r + 1) q w d regs t v c regs1 u le (omega arith) f in
-          let in_regs = target_room C s (Const (r + 1) c) x onward o1 (items (does s act) x n o2 ++ rest) (r + 1) refl h2 in
-          let long : r + 1 < length regs1 = let e1 = f.match'.room in omega (arith, e1, in_regs) in
-          let reg_is = st.by regs2 u (room x n o2 rest h3) (set_kept C (r + 1) (r + 1) c regs1 (omega arith)) f2.match' (λ _. refl) in
-          both_follows C b (does s act) x n o1 rest regs1 u _
-          (sets_follows C s (Const (r + 1) c) x onward o1 (items (does s act) x n o2 ++ rest) regs1 regs2 u _ h2 (const_acts (r + 1) c u.base regs1 u.memory u.left)
-              (sets_follows C s act x n o2 rest regs2 (slice_set regs2 (or_else to r) (g v)) u _ h3 (so v u.base regs2 u.memory u.left reg_is (set_same C (r + 1) c regs1 long))
-                  (wrote C to r q w' d n (goes (does s act) (closes n) o2) rest k regs t (g v) regs2 u le (after_lies C r q w w' d regs t v (g v) regs2 u f2 (lies v)) next))))))
+      let regs2 = slice_set regs1 (r + 1) c in
+      let f2 = after_set C r (r + 1) q w d regs t v c regs1 u le (omega arith) f in
+      let in_regs = target_room C s (Const (r + 1) c) x onward o1 (items (does s act) x n o2 ++ rest) (r + 1) refl h2 in
+      let long : r + 1 < length regs1 = let e1 = f.match'.room in omega (arith, e1, in_regs) in
+      let reg_is = st.by regs2 u (room x n o2 rest h3) (set_kept C (r + 1) (r + 1) c regs1 (omega arith)) f2.match' (λ _. refl) in
+      both_follows C b (does s act) x n o1 rest regs1 u _
+      (sets_follows C s (Const (r + 1) c) x onward o1 (items (does s act) x n o2 ++ rest) regs1 regs2 u _ h2 (const_acts (r + 1) c u.base regs1 u.memory u.left)
+      (sets_follows C s act x n o2 rest regs2 (slice_set regs2 (or_else to r) (g v)) u _ h3 (so v u.base regs2 u.memory u.left reg_is (set_same C (r + 1) c regs1 long))
+      (wrote C to r q w' d n (goes (does s act) (closes n) o2) rest k regs t (g v) regs2 u le (after_lies C r q w w' d regs t v (g v) regs2 u f2 (lies v)) next))))))
 
   pub not_lowers : (a : Exp) → Lowers C a → Lowers C (t.not a)
   not_lowers a la = record { gives = gives'; puts = no_slot_puts C (t.not a) refl gives'; tests = λ s r le. not_tests C (tested C.p a s r) r (is_quiet a) (ev C a s) (la.tests s r le) }
@@ -88,9 +88,9 @@ module _ (C : Spot) where
           with_gives (held true a (low C.p a s (Some r) r)) reg (Equal (or_else to r) reg (r + 1)) (pos 0) to s r (is_quiet a) (width_in a) W1 (ev C a s) (λ x. truth (not (is_true x))) (up C r le) (la.puts true s r le)
           (λ x n o rest h. first_room C s (Equal (or_else to r) reg (r + 1)) x n o rest reg refl h)
           (λ x base regs memory left ex ec. equal_acts (or_else to r) reg (r + 1) base regs memory left
-              ∙ ap (λ z. Does (slice_set regs (or_else to r) (acts.truth (int_eq z (reg_of regs (r + 1))))) memory left []) ex
-              ∙ ap (λ z. Does (slice_set regs (or_else to r) (acts.truth (int_eq x z))) memory left []) ec
-              ∙ ap (λ z. Does (slice_set regs (or_else to r) z) memory left []) (ap acts.truth (is_none x) ∙ truth_same (not (is_true x))))
+          ∙ ap (λ z. Does (slice_set regs (or_else to r) (acts.truth (int_eq z (reg_of regs (r + 1))))) memory left []) ex
+          ∙ ap (λ z. Does (slice_set regs (or_else to r) (acts.truth (int_eq x z))) memory left []) ec
+          ∙ ap (λ z. Does (slice_set regs (or_else to r) z) memory left []) (ap acts.truth (is_none x) ∙ truth_same (not (is_true x))))
           (λ x. truth_lies (not (is_true x)))
 
   pub unary_lowers : (o : Sign) (rank : Rank) (a : Exp) → Lowers C a → Lowers C (t.unary o rank a)
@@ -102,8 +102,8 @@ module _ (C : Spot) where
           with_gives (held true a (low C.p a s (Some r) r)) reg (Sub (size_of (ranked rank)) (or_else to r) (r + 1) reg) c to s r (is_quiet a) (width_in a) (ranked rank) (ev C a s) (λ x. wrapped (ranked rank) (c -ℤ x)) (up C r le) (la.puts true s r le)
           (λ x n o rest h. second_room C s (Sub (size_of (ranked rank)) (or_else to r) (r + 1) reg) x n o rest reg refl h)
           (λ x base regs memory left ex ec. sub_acts rank (or_else to r) (r + 1) reg base regs memory left
-              ∙ ap (λ z. Does (slice_set regs (or_else to r) (wrapped (ranked rank) (z -ℤ reg_of regs reg))) memory left []) ec
-              ∙ ap (λ z. Does (slice_set regs (or_else to r) (wrapped (ranked rank) (c -ℤ z))) memory left []) ex)
+          ∙ ap (λ z. Does (slice_set regs (or_else to r) (wrapped (ranked rank) (z -ℤ reg_of regs reg))) memory left []) ec
+          ∙ ap (λ z. Does (slice_set regs (or_else to r) (wrapped (ranked rank) (c -ℤ z))) memory left []) ex)
           (λ x. wrapped_lies (ranked rank) (c -ℤ x))
 
       gives' : (o : Sign) → GivesOf C (t.unary o rank a)
@@ -118,16 +118,16 @@ module _ (C : Spot) where
       let c = number s to (pos 0) in
       let gc = number_gives C s to r W1 (pos 0) (truth_lies false) in
       plain_gives C (both A (both b c)) to r (is_quiet a) W1 (ev C a s >>= (λ v. put_number v)) refl (λ x n o rest h d dc k regs t qd mt next.
-          let o1 = goes A false o in
-          let o2 = goes b false o1 in
-          let h23 = second_has C A (both b c) x n o rest h in
-          let h2 = first_has C b c x n o1 rest h23 in
-          let h3 = second_has C b c x n o1 rest h23 in
-          both_follows C A (both b c) x n o rest regs t _
-          ((la.puts true s r le).by x o (items (both b c) x n o1 ++ rest) (first_has C A (both b c) x n o rest h) d dc (λ v. put_number v k) regs t qd mt (λ v regs1 u f st.
-              let u2 : e.State = record u { out = u.out ++ signed_decimal v } in
-              let m2 : Match C regs1 u2 = let m1 = f.match' in record { slots = m1.slots; room = m1.room; same = m1.same; lies = m1.lies; top = m1.top; aligned = m1.aligned; above = m1.above; depth = m1.depth } in
-              let reg_is = st.by regs1 u (first_room C s (PutNumber reg) x onward o1 (items c x n o2 ++ rest) reg refl h2) (kept_all C (r + 1) regs1) f.match' (λ _. refl) in
-              both_follows C b c x n o1 rest regs1 u _
-              (does_follows C s (PutNumber reg) x onward o1 (items c x n o2 ++ rest) regs1 regs1 u u2 (signed_decimal v) _ h2 (number_acts reg u.base regs1 u.memory u.left ∙ ap (λ z. Does regs1 u.memory u.left (signed_decimal z)) reg_is) refl refl refl
-                  (gc.by x n o2 rest h3 d dc k regs1 u2 f.budget m2 (λ z regs3 u3 f3. next z regs3 u3 (record { budget = f3.budget; match' = f3.match'; kept = kept_on C r r regs regs1 regs3 (omega arith) f.kept f3.kept; still = λ hq. f3.still refl ∙ f.still hq; lies = f3.lies }))))))))
+      let o1 = goes A false o in
+      let o2 = goes b false o1 in
+      let h23 = second_has C A (both b c) x n o rest h in
+      let h2 = first_has C b c x n o1 rest h23 in
+      let h3 = second_has C b c x n o1 rest h23 in
+      both_follows C A (both b c) x n o rest regs t _
+      ((la.puts true s r le).by x o (items (both b c) x n o1 ++ rest) (first_has C A (both b c) x n o rest h) d dc (λ v. put_number v k) regs t qd mt (λ v regs1 u f st.
+      let u2 : e.State = record u { out = u.out ++ signed_decimal v } in
+      let m2 : Match C regs1 u2 = let m1 = f.match' in record { slots = m1.slots; room = m1.room; same = m1.same; lies = m1.lies; top = m1.top; aligned = m1.aligned; above = m1.above; depth = m1.depth } in
+      let reg_is = st.by regs1 u (first_room C s (PutNumber reg) x onward o1 (items c x n o2 ++ rest) reg refl h2) (kept_all C (r + 1) regs1) f.match' (λ _. refl) in
+      both_follows C b c x n o1 rest regs1 u _
+      (does_follows C s (PutNumber reg) x onward o1 (items c x n o2 ++ rest) regs1 regs1 u u2 (signed_decimal v) _ h2 (number_acts reg u.base regs1 u.memory u.left ∙ ap (λ z. Does regs1 u.memory u.left (signed_decimal z)) reg_is) refl refl refl
+      (gc.by x n o2 rest h3 d dc k regs1 u2 f.budget m2 (λ z regs3 u3 f3. next z regs3 u3 (record { budget = f3.budget; match' = f3.match'; kept = kept_on C r r regs regs1 regs3 (omega arith) f.kept f3.kept; still = λ hq. f3.still refl ∙ f.still hq; lies = f3.lies }))))))))

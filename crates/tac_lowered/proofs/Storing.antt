@@ -83,28 +83,28 @@ module _ (C : Spot) where
       let M = moved s to rb in
       let le1 : C.free ≤ r + 1 = omega arith in
       plain_gives C (both A (both B (both S M))) to r (is_quiet a && is_quiet b) (width_of ty) (ev C (t.store ty a b) s) refl (λ lp n o rest h d dc k regs t qd mt next.
-          let o1 = goes A false o in
-          let o2 = goes B false o1 in
-          let o3 = goes S false o2 in
-          let h1 = second_has C A (both B (both S M)) lp n o rest h in
-          let h2 = second_has C B (both S M) lp n o1 rest h1 in
-          let hS = first_has C S M lp n o2 rest h2 in
-          let hM = second_has C S M lp n o2 rest h2 in
-          both_follows C A (both B (both S M)) lp n o rest regs t _
-          ((la.puts (is_quiet b) s r le).by lp o (items (both B (both S M)) lp n o1 ++ rest) (first_has C A (both B (both S M)) lp n o rest h) d dc _ regs t qd mt (λ x regs1 u1 f1 st1.
-              both_follows C B (both S M) lp n o1 rest regs1 u1 _
-              ((lb.puts true s (r + 1) le1).by lp o1 (items (both S M) lp n o2 ++ rest) (first_has C B (both S M) lp n o1 rest h1) d dc _ regs1 u1 f1.budget f1.match' (λ y regs2 u2 f2 st2.
-                  let ex = st1.by regs2 u2 (first_room C s _ lp onward o2 (items M lp n o3 ++ rest) ra refl hS) f2.kept f2.match' f2.still in
-                  let ey = st2.by regs2 u2 (second_room C s _ lp onward o2 (items M lp n o3 ++ rest) rb refl hS) (kept_all C (r + 1 + 1) regs2) f2.match' (λ _. refl) in
-                  both_follows C S M lp n o2 rest regs2 u2 _
-                  (store_follows ty s ra rb lp onward o2 (items M lp n o3 ++ rest) regs2 u2 x y k value (in_eight (width_in a) x f1.lies) hS ex ey (λ memory.
-                      let u3 : e.State = record u2 { memory = memory } in
-                      let m3 : Match C regs2 u3 = let m1 = f2.match' in record { slots = m1.slots; room = m1.room; same = m1.same; lies = m1.lies; top = m1.top; aligned = m1.aligned; above = m1.above; depth = m1.depth } in
-                      let f3 : After C r (is_quiet a && is_quiet b) (width_of ty) d regs t y regs2 u3 = record {
-                          budget = f2.budget;
-                          match' = m3;
-                          kept = kept_on C r (r + 1) regs regs1 regs2 (omega arith) f1.kept f2.kept;
-                          still = λ hq. f2.still (and_second (is_quiet a) (is_quiet b) hq) ∙ f1.still (and_first (is_quiet a) (is_quiet b) hq);
-                          lies = wider (width_in b) (width_of ty) y whole f2.lies;
-                        } in
-                      moved_follows C s to rb lp n o3 rest regs2 u3 y (k y u3) hM ey (next y regs2 u3 f3)))))))))
+      let o1 = goes A false o in
+      let o2 = goes B false o1 in
+      let o3 = goes S false o2 in
+      let h1 = second_has C A (both B (both S M)) lp n o rest h in
+      let h2 = second_has C B (both S M) lp n o1 rest h1 in
+      let hS = first_has C S M lp n o2 rest h2 in
+      let hM = second_has C S M lp n o2 rest h2 in
+      both_follows C A (both B (both S M)) lp n o rest regs t _
+      ((la.puts (is_quiet b) s r le).by lp o (items (both B (both S M)) lp n o1 ++ rest) (first_has C A (both B (both S M)) lp n o rest h) d dc _ regs t qd mt (λ x regs1 u1 f1 st1.
+      both_follows C B (both S M) lp n o1 rest regs1 u1 _
+      ((lb.puts true s (r + 1) le1).by lp o1 (items (both S M) lp n o2 ++ rest) (first_has C B (both S M) lp n o1 rest h1) d dc _ regs1 u1 f1.budget f1.match' (λ y regs2 u2 f2 st2.
+      let ex = st1.by regs2 u2 (first_room C s _ lp onward o2 (items M lp n o3 ++ rest) ra refl hS) f2.kept f2.match' f2.still in
+      let ey = st2.by regs2 u2 (second_room C s _ lp onward o2 (items M lp n o3 ++ rest) rb refl hS) (kept_all C (r + 1 + 1) regs2) f2.match' (λ _. refl) in
+      both_follows C S M lp n o2 rest regs2 u2 _
+      (store_follows ty s ra rb lp onward o2 (items M lp n o3 ++ rest) regs2 u2 x y k value (in_eight (width_in a) x f1.lies) hS ex ey (λ memory.
+      let u3 : e.State = record u2 { memory = memory } in
+      let m3 : Match C regs2 u3 = let m1 = f2.match' in record { slots = m1.slots; room = m1.room; same = m1.same; lies = m1.lies; top = m1.top; aligned = m1.aligned; above = m1.above; depth = m1.depth } in
+      let f3 : After C r (is_quiet a && is_quiet b) (width_of ty) d regs t y regs2 u3 = record {
+        budget = f2.budget;
+        match' = m3;
+        kept = kept_on C r (r + 1) regs regs1 regs2 (omega arith) f1.kept f2.kept;
+        still = λ hq. f2.still (and_second (is_quiet a) (is_quiet b) hq) ∙ f1.still (and_first (is_quiet a) (is_quiet b) hq);
+        lies = wider (width_in b) (width_of ty) y whole f2.lies;
+      } in
+      moved_follows C s to rb lp n o3 rest regs2 u3 y (k y u3) hM ey (next y regs2 u3 f3)))))))))

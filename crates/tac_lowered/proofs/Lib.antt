@@ -12,6 +12,7 @@ pub mod Passing
 pub mod Prologue
 pub mod Relation
 pub mod Signs
+pub mod SoundRows
 pub mod Statements
 pub mod Storing
 pub mod Values

@@ -49,17 +49,14 @@ module _ (C : Spot) where
       let done : (v : ℤ) (regs2 : List ℤ) (u2 : e.State) → After C r (q && qa) w d regs t v regs2 u2 → Begins C out regs2 u2 (k v u2) = λ v regs2 u2 f. begins_behind C n p' rest regs2 u2 (k v u2) (own_empty a p (empty_test c o)) h3 (next v regs2 u2 f) in
       subst (λ is. Follows C o is regs t (m (λ v. (if is_true v then ma >>= (λ y. pure (g y)) else pure z) k) t)) (sym e1)
       (subst (λ kk. Follows C o (T ++ (A ++ rest)) regs t (m kk t)) (fun_ext (λ v. inside (is_true v) k))
-          (tc.by (entry a x out p.label) out o (A ++ rest) h1 d dc (ma (λ y. k (g y))) (k z) regs t qd mt
-              (λ regs1 u l. nearly C.funcs C.places _ u _ (ga.own x s out p rest (empty_test c o) h2 d dc (λ y. k (g y)) regs1 u l.budget l.match' (λ v regs2 u2 f.
-                  done (g v) regs2 u2 (let f2 = after_later C r q qa wa d regs regs1 regs2 t u u2 v l f in record { budget = f2.budget; match' = f2.match'; kept = f2.kept; still = f2.still; lies = lies_g v }))))
-              (λ regs1 u l. nearly C.funcs C.places _ u _ (done z regs1 u (record { budget = l.budget; match' = l.match'; kept = l.kept; still = λ hq. l.still (and_first q qa hq); lies = lies_z }))))))
+      (tc.by (entry a x out p.label) out o (A ++ rest) h1 d dc (ma (λ y. k (g y))) (k z) regs t qd mt
+      (λ regs1 u l. nearly C.funcs C.places _ u _ (ga.own x s out p rest (empty_test c o) h2 d dc (λ y. k (g y)) regs1 u l.budget l.match' (λ v regs2 u2 f.
+      done (g v) regs2 u2 (let f2 = after_later C r q qa wa d regs regs1 regs2 t u u2 v l f in record { budget = f2.budget; match' = f2.match'; kept = f2.kept; still = f2.still; lies = lies_g v }))))
+      (λ regs1 u l. nearly C.funcs C.places _ u _ (done z regs1 u (record { budget = l.budget; match' = l.match'; kept = l.kept; still = λ hq. l.still (and_first q qa hq); lies = lies_z }))))))
     where
       inside : (x : Bool) (k : ℤ → Step) → (if x then ma (λ y. k (g y)) else k z) ≡ (if x then ma >>= (λ y. pure (g y)) else pure z) k
       inside true k = refl
       inside false k = refl
-
-
-
 
   abbrev one_or_none : ℤ → Doing ℤ
   one_or_none v = if is_true v then pure (pos 1) else pure (pos 0)
@@ -109,7 +106,7 @@ module _ (C : Spot) where
       gives' s (Some to) r le =
           subst (λ m. Gives C (low C.p (t.both a b) s (Some to) r) (Some to) r (is_quiet a && is_quiet b) W1 m) (fun_ext (λ k. all_same (ev C a s) (ev C b s) k))
           (choose_gives C s (all_of (tested C.p a s r) (tested C.p b s r)) (does s (Const to (pos 1))) (does s (Const to (pos 0))) (Some to) r (is_quiet a && is_quiet b) true true (is_quiet a && is_quiet b) W1 W1 W1 (ev C (t.both a b) s) (pure (pos 1)) (pure (pos 0))
-              (tests' s r le) (const_gives C s to r W1 (pos 1) one_lies) (const_gives C s to r W1 (pos 0) none_lies) (λ h. (h, refl, refl)) (λ v l. l) (λ v l. l))
+          (tests' s r le) (const_gives C s to r W1 (pos 1) one_lies) (const_gives C s to r W1 (pos 0) none_lies) (λ h. (h, refl, refl)) (λ v l. l) (λ v l. l))
 
   pub either_lowers : (a b : Exp) → Lowers C a → Lowers C b → Lowers C (t.either a b)
   either_lowers a b la lb = record { gives = gives'; puts = no_slot_puts C (t.either a b) refl gives'; tests = tests' }
@@ -121,21 +118,17 @@ module _ (C : Spot) where
       gives' s None r le =
           subst (λ m. Gives C (low C.p (t.either a b) s None r) None r (is_quiet a && is_quiet b) W1 m) (fun_ext (λ k. flip_same (ev C a s) (ev C b s) k))
           (when_gives s (inverse (tested C.p a s r)) (low C.p b s None r) r (is_quiet a) (is_quiet b) W1 (width_in b) (ev C a s >>= (λ x. pure (truth (not (is_true x))))) (ev C b s) (λ y. truth (is_true y)) (pos 1)
-              (not_tests C (tested C.p a s r) r (is_quiet a) (ev C a s) (la.tests s r le)) (lb.gives s None r le) (λ v. truth_lies (is_true v)) one_lies)
+          (not_tests C (tested C.p a s r) r (is_quiet a) (ev C a s) (la.tests s r le)) (lb.gives s None r le) (λ v. truth_lies (is_true v)) one_lies)
       gives' s (Some to) r le =
           subst (λ m. Gives C (low C.p (t.either a b) s (Some to) r) (Some to) r (is_quiet a && is_quiet b) W1 m) (fun_ext (λ k. one_same (ev C a s) (ev C b s) k))
           (choose_gives C s (one_of (tested C.p a s r) (tested C.p b s r)) (does s (Const to (pos 1))) (does s (Const to (pos 0))) (Some to) r (is_quiet a && is_quiet b) true true (is_quiet a && is_quiet b) W1 W1 W1 (ev C (t.either a b) s) (pure (pos 1)) (pure (pos 0))
-              (tests' s r le) (const_gives C s to r W1 (pos 1) one_lies) (const_gives C s to r W1 (pos 0) none_lies) (λ h. (h, refl, refl)) (λ v l. l) (λ v l. l))
+          (tests' s r le) (const_gives C s to r W1 (pos 1) one_lies) (const_gives C s to r W1 (pos 0) none_lies) (λ h. (h, refl, refl)) (λ v l. l) (λ v l. l))
 
   -- ---- addresses
 
   frame_acts : (j offset base : ℕ) (regs : List ℤ) (memory left : List ℕ) → effect_of (FrameAddress j (pos offset)) base regs memory left ≡ Does (slice_set regs j (further (pos base) (pos offset))) memory left []
   unfolding effect_of
   frame_acts j offset base regs memory left = refl
-
-
-
-
 
   pub address_lowers : (ty : ValueType) (of : Storage) → ((j : ℕ) → Lies W8 (pos (slice_index_or C.p.globals j 0))) → Lowers C (t.address ty of)
   address_lowers ty of lie = plain_lowers C (t.address ty of) refl refl (gives' of)

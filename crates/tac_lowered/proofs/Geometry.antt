@@ -177,11 +177,11 @@ module _ (n : ℕ) (last : End) where
 
 -- ---- registers
 
-up_least : (r : Option ℕ) (n : ℕ) → n ≤ up_to r n
+pub up_least : (r : Option ℕ) (n : ℕ) → n ≤ up_to r n
 up_least None n = omega arith
 up_least (Some r) n = omega arith
 
-all_least : (rs : List ℕ) (n : ℕ) → n ≤ up_to_all rs n
+pub all_least : (rs : List ℕ) (n : ℕ) → n ≤ up_to_all rs n
 all_least [] n = omega arith
 all_least (r ∷ rs) n = let h = all_least rs n in omega (arith, h)
 

@@ -8,9 +8,13 @@ pub mod Executing
 pub mod Geometry
 pub mod Gives
 pub mod Operations
+pub mod Passing
 pub mod Prologue
 pub mod Relation
+pub mod Signs
+pub mod SoundRows
 pub mod Statements
+pub mod Storing
 pub mod Values
 pub mod Widths
 pub mod Worked

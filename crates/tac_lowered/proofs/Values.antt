@@ -61,7 +61,7 @@ module _ (C : Spot) where
   result_follows s act x n o rest j k regs u (Ok y) h eq next = sets_follows C s act x n o rest regs (slice_set regs j y) u (k y u) h eq (next y refl)
   result_follows s act x n o rest j k regs u (Err kind) h eq next = fault_follows C s act x n o rest regs u kind h eq
 
-  after_lies : (r : ℕ) (q : Bool) (w w' : Width) (d : ℕ) (regs : List ℤ) (t : e.State) (v z : ℤ) (regs' : List ℤ) (u : e.State) → After C r q w d regs t v regs' u → Lies w' z → After C r q w' d regs t z regs' u
+  pub after_lies : (r : ℕ) (q : Bool) (w w' : Width) (d : ℕ) (regs : List ℤ) (t : e.State) (v z : ℤ) (regs' : List ℤ) (u : e.State) → After C r q w d regs t v regs' u → Lies w' z → After C r q w' d regs t z regs' u
   after_lies r q w w' d regs t v z regs' u a l = record { budget = a.budget; match' = a.match'; kept = a.kept; still = a.still; lies = l }
 
   -- one operation on an operand
@@ -109,7 +109,7 @@ module _ (C : Spot) where
   const_gives s to r w v l = plain_gives C (does s (Const to v)) (Some to) r true w (pure v) refl (λ x n o rest h d dc k regs t qd mt next.
       sets_follows C s (Const to v) x n o rest regs (slice_set regs to v) t (k v t) h (const_acts to v t.base regs t.memory t.left) (next v regs t (record { budget = qd; match' = mt; kept = kept_all C r regs; still = λ _. refl; lies = l })))
 
-  number_gives : (s : ℕ) (to : Option ℕ) (r : ℕ) (w : Width) (v : ℤ) → Lies w v → Gives C (number s to v) to r true w (pure v)
+  pub number_gives : (s : ℕ) (to : Option ℕ) (r : ℕ) (w : Width) (v : ℤ) → Lies w v → Gives C (number s to v) to r true w (pure v)
   number_gives s None r w v l = nothing_gives r w v l
   number_gives s (Some to) r w v l = const_gives s to r w v l
 

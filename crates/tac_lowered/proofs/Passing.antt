@@ -1,0 +1,113 @@
+-- Arguments and calls.
+use Rattle.std.proofs.Common.{◌≡◌, ℕ, suc, ◌+◌, ◌<◌, ◌≤◌, ◌%◌, ℤ, pos, List, [], ◌∷◌, ◌++◌, length, map, Bool, true, false, ◌&&◌, refl, sym, ap, ◌∙◌, subst, arith, Option, Some, None}
+use Rattle.std.specs.Prelude.{slice_get, slice_index_or}
+use Rattle.ib_base.specs.declared.integers.Width.{Width}
+use Rattle.c_meaning.specs.Doing as e
+use Rattle.c_meaning.specs.Doing.{Step, Doing}
+use Rattle.c_meaning.specs.Meaning.{evals}
+use Rattle.c_typed.specs.declared.types.ValueType.{ValueType}
+use Rattle.c_typed.specs.declared.program.Param.{Param}
+use Rattle.c_typed.specs.Tree as t
+use Rattle.c_typed.specs.Tree.{Exp, Exps, Function}
+use Rattle.c_typed.specs.Program as typed
+use Rattle.c_typed.specs.Values.{width_of}
+use Rattle.tac_core.specs.declared.code.End.TheVariants.{Call}
+use Rattle.tac_core.specs.Meaning.{reg_of, set_in, block_of, frame_of}
+use Rattle.tac_lowered.specs.Code.{Code, both, calls}
+use Rattle.tac_lowered.specs.Items.{Item, Close, Open, fresh, goes, Next, onward, jump, closes, Loop, items, label_of}
+use Rattle.tac_lowered.specs.Expressions.{low, low_all, held, at, passed, is_quiet, are_quiet, width_in}
+use Rattle.tac_lowered.specs.Lowered.{up_to_all, registers}
+use Rattle.tac_lowered.specs.Sound.{fits_in, told, KeepsExp, KeepsExps, Fill}
+use Rattle.tac_lowered.proofs.Geometry.{found, with_before, up_least}
+use Rattle.tac_lowered.proofs.Relation.{Spot, Lies, Back, Suit, Called, kind_of, Match, Kept, Follows, Has, close_has}
+use Rattle.tac_lowered.proofs.Gives.{After, plain_gives, kept_all, kept_on, first_has, second_has, both_follows}
+use Rattle.tac_lowered.proofs.Constructs.{Lowers, ev, plain_lowers}
+use Rattle.tac_lowered.proofs.Operations.{begins_behind}
+use Rattle.tac_lowered.proofs.Statements.{no_loss, told_in}
+use Rattle.tac_lowered.proofs.Widths.{wider}
+
+and_first : (a b : Bool) → (a && b) ≡ true → a ≡ true
+and_first true b h = refl
+and_first false b h = h
+
+and_second : (a b : Bool) → (a && b) ≡ true → b ≡ true
+and_second true b h = h
+and_second false b h = absurd (apart h)
+  where
+    apart : false ≡ true → ⊥
+    apart h = cc
+
+-- each of the registers is there
+abbrev Rooms : (regs : ℕ) → List ℕ → Type 0
+Rooms regs [] = Unit {0}
+Rooms regs (r ∷ rs) = (r < regs) × Rooms regs rs
+
+all_rooms : (rs : List ℕ) (n regs : ℕ) → up_to_all rs n ≤ regs → Rooms regs rs
+all_rooms [] n regs le = tt
+all_rooms (r ∷ rs) n regs le = (omega arith, all_rooms rs n regs (omega arith))
+
+module _ (C : Spot) (lowers : (a : Exp) → KeepsExp C.p C.kinds a → Lowers C a) where
+  -- what holds behind the code of arguments
+  record Passed (r : ℕ) (is_still : Bool) (d : ℕ) (regs : List ℤ) (t : e.State) (registers : List ℕ) (vs regs' : List ℤ) (u : e.State) : Type 0 where
+    budget : u.budget ≤ d
+    match' : Match C regs' u
+    kept : Kept C r regs regs'
+    still : is_still ≡ true → u.slots ≡ t.slots
+    here : map (reg_of regs') registers ≡ vs
+
+  args_follow : (all : Exps) (qs : List Param) → KeepsExps C.p C.kinds all → Fill C.p C.kinds all qs → (s r : ℕ) → C.free ≤ r → (lp : Loop) (o : Open) (rest : List Item) → Has C o (items (low_all C.p all s r) lp onward o ++ rest) → Rooms C.F.regs (passed all r)
+      → (d : ℕ) → d ≤ C.c → (k : List ℤ → Step) (regs : List ℤ) (t : e.State) → t.budget ≤ d → Match C regs t
+      → ((vs regs' : List ℤ) (u : e.State) → Passed r (are_quiet all) d regs t (passed all r) vs regs' u → Suit qs vs → Follows C (goes (low_all C.p all s r) false o) rest regs' u (k vs u))
+      → Follows C o (items (low_all C.p all s r) lp onward o ++ rest) regs t (evals C.p C.call C.m all (typed.place_of C.p s) k t)
+  args_follow t.no_exp [] keeps fill s r le lp o rest h rooms d dc k regs t q mt next = next [] regs t (record { budget = q; match' = mt; kept = kept_all C r regs; still = λ _. refl; here = refl }) tt
+  args_follow t.no_exp (x ∷ qs) keeps fill s r le lp o rest h rooms d dc k regs t q mt next = absurd fill
+  args_follow (t.an_exp a more) [] keeps fill s r le lp o rest h rooms d dc k regs t q mt next = absurd fill
+  args_follow (t.an_exp a more) (x ∷ qs) keeps fill s r le lp o rest h rooms d dc k regs t q mt next =
+      let A = held (are_quiet more) a (low C.p a s (Some r) r) in
+      let B = low_all C.p more s (r + 1) in
+      let le1 : C.free ≤ r + 1 = omega arith in
+      both_follows C A B lp onward o rest regs t _
+      (((lowers a keeps.0).puts (are_quiet more) s r le).by lp o (items B lp onward (goes A false o) ++ rest) (first_has C A B lp onward o rest h) d dc _ regs t q mt (λ v regs1 u1 f st.
+      args_follow more qs keeps.1 fill.1 s (r + 1) le1 lp (goes A false o) rest (second_has C A B lp onward o rest h) rooms.1 d dc (λ vs. k (v ∷ vs)) regs1 u1 f.budget f.match' (λ vs regs2 u2 g suit.
+      let ev' = st.by regs2 u2 rooms.0 g.kept g.match' g.still in
+      next (v ∷ vs) regs2 u2 (record {
+        budget = g.budget;
+        match' = g.match';
+        kept = kept_on C r (r + 1) regs regs1 regs2 (omega arith) f.kept g.kept;
+        still = λ hq. g.still (and_second (is_quiet a) (are_quiet more) hq) ∙ f.still (and_first (is_quiet a) (are_quiet more) hq);
+        here = ap (λ z. z ∷ map (reg_of regs2) (passed more (r + 1))) ev' ∙ ap (λ zs. v ∷ zs) g.here;
+      }) (wider (told a) (width_of x.ty) v (no_loss (told a) (width_of x.ty) fill.0) (wider (width_in a) (told a) v (told_in C.p C.kinds a keeps.0) f.lies), suit))))
+
+  back_match : (regs : List ℤ) (t u : e.State) → Back t u → Match C regs t → Match C regs u
+  back_match regs t u b h = record {
+    slots = ap length b.slots ∙ h.slots;
+    room = h.room;
+    same = λ x lt. h.same x lt ∙ ap (λ s. slice_index_or s x (pos 0)) (sym b.slots);
+    lies = λ x lt. subst (λ s. Lies (width_of (kind_of C x)) (slice_index_or s x (pos 0))) (sym b.slots) (h.lies x lt);
+    top = b.top ∙ h.top ∙ ap (λ x. x + C.F.frame) (sym b.base);
+    aligned = ap (λ x. x % 16) b.base ∙ h.aligned;
+    above = let e1 = b.base in let e2 = h.above in omega (arith, e1, e2);
+    depth = b.depth ∙ h.depth;
+  }
+
+  pub call_lowers : (ty : ValueType) (g : ℕ) (G : Function) (all : Exps) → slice_get C.p.functions g ≡ Some G → ty ≡ G.result → KeepsExps C.p C.kinds all → Fill C.p C.kinds all G.params → Lowers C (t.call ty g all)
+  call_lowers ty g G all eg et keeps fill = plain_lowers C (t.call ty g all) refl refl (λ s to r le.
+      let A = low_all C.p all s r in
+      let K : Code = calls s to g (passed all r) in
+      plain_gives C (both A K) to r (are_quiet all) (width_of ty) (ev C (t.call ty g all) s) refl (λ lp n o rest h d dc k regs t q mt next.
+      let o1 = goes A false o in
+      let out = label_of n (suc o1.label) in
+      let h2 = second_has C A K lp n o rest h in
+      let room : up_to_all (passed all r) (registers rest C.free) ≤ C.F.regs = let e1 = h2.room in let e2 = up_least to (up_to_all (passed all r) (registers rest C.free)) in omega (arith, e1, e2) in
+      both_follows C A K lp n o rest regs t _
+      (args_follow all G.params keeps fill s r le lp o (items K lp n o1 ++ rest) (first_has C A K lp n o rest h) (all_rooms (passed all r) (registers rest C.free) C.F.regs room) d dc _ regs t q mt (λ vs regs1 u f suit.
+      let M = f.match' in
+      let js = Close s (Call to g (passed all r) out) ∷ rest in
+      let top16 : u.top % 16 ≡ 0 = let e1 = M.top in let e2 = M.aligned in let e3 = C.rounded in omega (arith, e1, e2, e3) in
+      let above : 4096 ≤ u.top = let e1 = M.top in let e2 = M.above in omega (arith, e1, e2) in
+      subst (λ at. Follows C o1 js regs1 u (C.call at g vs k u)) (sym (C.stands s))
+      (C.known.by C.f o1.label (with_before C.n C.last h2.stands.before js) to g G eg (passed all r) out vs regs1 C.waiting d dc k u f.budget
+      (ap (λ F. block_of F o1.label) C.there ∙ found C.n C.last C.F.blocks o1 js h2.stands) refl f.here suit M.depth (M.top ∙ ap (λ F. u.base + frame_of F) (sym C.there)) top16 above
+      (λ v u' qu b lies.
+      begins_behind C n (fresh o1) rest (set_in regs1 to v) u' (k v u') refl (close_has C o1 s (Call to g (passed all r) out) rest h2)
+      (next v regs1 u' (record { budget = qu; match' = back_match regs1 u u' b M; kept = f.kept; still = λ hq. b.slots ∙ f.still hq; lies = subst (λ ty. Lies (width_of ty) v) (sym et) lies }))))))))

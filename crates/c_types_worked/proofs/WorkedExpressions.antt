@@ -20,7 +20,7 @@ use Rattle.c_typed.specs.ValueTypes.{int, long}
 use Rattle.c_scopes.specs.Scopes.{Named}
 use Rattle.c_layout.specs.declared.shape.Shape.{Shape}
 use Rattle.c_layout.specs.declared.shape.Shape.TheVariants.{Scalar, Array}
-use Rattle.c_types_operators.specs.declared.rule.Rule.TheVariants.{NotAssignable, WrongOperands}
+use Rattle.c_typed.specs.declared.rule.Rule.TheVariants.{NotAssignable, WrongOperands}
 use Rattle.c_types_operators.specs.declared.scope.Callee.TheVariants.{Body}
 use Rattle.c_types_operators.specs.declared.scope.Lives.{Lives}
 use Rattle.c_types_operators.specs.declared.scope.Lives.TheVariants.{InSlot, InMemory}

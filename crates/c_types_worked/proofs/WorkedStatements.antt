@@ -6,7 +6,7 @@ use Rattle.c_typed.specs.declared.types.ValueType.TheVariants as v
 use Rattle.c_typed.specs.declared.program.Home.TheVariants as h
 use Rattle.c_typed.specs.declared.expr.Storage.TheVariants.{Frame}
 use Rattle.c_typed.specs.Tree as t
-use Rattle.c_types_operators.specs.declared.rule.Rule.TheVariants.{UnknownName, Redeclared, OutsideALoop, ReturnValue}
+use Rattle.c_typed.specs.declared.rule.Rule.TheVariants.{UnknownName, Redeclared, OutsideALoop, ReturnValue}
 use Rattle.c_types_operators.specs.Parts.{breach}
 use Rattle.c_types_operators.specs.Rules.{Judged, Fine, Broken}
 use Rattle.c_types_statements.specs.Statements.{literals_in_all, places_of, statements}

@@ -7,8 +7,6 @@ mod count_items;
 mod error;
 mod frames;
 mod program;
-#[cfg(test)]
-mod tests;
 
 pub use count_items::node_count;
 pub use error::CheckErr;

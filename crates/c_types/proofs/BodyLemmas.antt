@@ -10,7 +10,7 @@ use Rattle.c_scopes.specs.Scopes as s
 use Rattle.c_scopes.specs.Scopes.{declared}
 use Rattle.c_types_homes.specs.Addressed.{variables}
 use Rattle.c_types_homes.specs.Homes.{function_homes, function_given, frame_size}
-use Rattle.c_types_operators.specs.declared.rule.Rule.TheVariants.{WrongSignature}
+use Rattle.c_typed.specs.declared.rule.Rule.TheVariants.{WrongSignature}
 use Rattle.c_types_operators.specs.declared.scope.Variable.{Variable}
 use Rattle.c_types_operators.specs.Rules.{Fine}
 use Rattle.c_types_operators.specs.Scopes.{Scope, inner, outer, with_variable}

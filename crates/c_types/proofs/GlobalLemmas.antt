@@ -10,7 +10,7 @@ use Rattle.c_layout.specs.declared.data.Datum.{Datum}
 use Rattle.c_layout.specs.declared.data.GlobalData.{GlobalData}
 use Rattle.c_layout.specs.Layout.{Texts}
 use Rattle.c_types_homes.specs.Declarators.{declared_name, declared_place, declared_shape, init_of}
-use Rattle.c_types_operators.specs.declared.rule.Rule.TheVariants.{BadType}
+use Rattle.c_typed.specs.declared.rule.Rule.TheVariants.{BadType}
 use Rattle.c_types_operators.specs.declared.rule.Breach.{Breach}
 use Rattle.c_types_operators.specs.declared.scope.Variable.{Variable}
 use Rattle.c_types_operators.specs.declared.scope.Lives.TheVariants.{InMemory}

@@ -7,7 +7,7 @@ use Rattle.c_typed.specs.Tree as t
 use Rattle.c_typed.specs.Views.{function_of}
 use Rattle.c_layout.specs.declared.data.GlobalData.{GlobalData}
 use Rattle.c_scopes.specs.Scopes as s
-use Rattle.c_types_operators.specs.declared.rule.Rule.TheVariants.{WrongSignature}
+use Rattle.c_typed.specs.declared.rule.Rule.TheVariants.{WrongSignature}
 use Rattle.c_types_operators.specs.Rules.{Fine}
 use Rattle.c_types_operators.specs.Scopes as scopes
 use Rattle.c_types_operators.specs.Parts.{broken_if}

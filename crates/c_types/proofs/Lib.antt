@@ -4,3 +4,4 @@ pub mod BodyLemmas
 pub mod ItemLemmas
 pub mod Settled
 pub mod CheckLemmas
+pub mod FirstLemmas

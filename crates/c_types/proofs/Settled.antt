@@ -20,16 +20,18 @@ use Rattle.c_scopes.specs.Scopes as s
 use Rattle.c_layout.specs.declared.shape.Shape.{Shape}
 use Rattle.c_layout.specs.declared.shape.Shape.TheVariants.{Scalar, Array}
 use Rattle.c_layout.specs.Layout.{Texts}
-use Rattle.c_types_operators.specs.declared.rule.Rule.{Rule}
+use Rattle.c_typed.specs.declared.rule.Rule.{Rule}
 use Rattle.c_types_operators.specs.declared.rule.Breach.{Breach}
 use Rattle.c_types_operators.specs.Rules.{Judged, Fine, Broken, breaches, breaks, ◌>>=◌, both, or_breaks}
 use Rattle.c_types_operators.specs.Parts.{broken_if, ◌<*>◌, also}
 use Rattle.c_types_operators.specs.Scopes.{Scope, inner, Function, Meant, variable, function, found}
-use Rattle.c_types_operators.specs.Operators.{value_of, target_of, address_of, effect_value, used, called, tested, stored_as, integer_operand, binary_value, conditional_value, signed_value, unary_value, logical_value, is_logical, prefix_value, postfix_value, step_of, counted, within, restored, assignment, indexed_pointer, index_value, cast_value, comma_of, based_on, has_value, valued, placed, condition, passed, effect_of, prefix_of, of_value, unary_of, operand, plain_operand, type_of, target_type, anchor, is_void, argument_number, wanted, rest_of, Designated, Target, a_value, a_slot, a_cell, an_element, an_array, no_value}
-use Rattle.c_types_operators.specs.declared.rule.Rule.TheVariants.{WrongSignature, WrongOperands, ReturnValue, OutsideALoop, WrongInitialiser}
+use Rattle.c_typed.specs.ExprTypes.{type_of}
+use Rattle.c_typed.specs.ValueTypes.{is_void}
+use Rattle.c_types_operators.specs.Operators.{value_of, target_of, address_of, used, called, tested, stored_as, integer_operand, binary_value, conditional_value, signed_value, unary_value, logical_value, is_logical, prefix_value, postfix_value, step_of, counted, within, restored, assignment, indexed_pointer, index_value, cast_value, comma_of, valued, placed, condition, passed, prefix_of, of_value, unary_of, operand, plain_operand, target_type, anchor, argument_number, wanted, rest_of, Designated, Target, a_value, a_slot, a_cell, an_element, an_array, called_value, gives_nothing}
+use Rattle.c_typed.specs.declared.rule.Rule.TheVariants.{WrongSignature, WrongOperands, ReturnValue, OutsideALoop, WrongInitialiser}
 use Rattle.c_types_homes.specs.Declarators.{declared_name, declared_place, declared_shape, init_of}
 use Rattle.c_types_declarators.specs.Declarations.{declarator_breaches}
-use Rattle.c_types_expressions.specs.Expressions.{literals, designated, arguments, value, tested_value, stored_value, effects, effect}
+use Rattle.c_types_expressions.specs.Expressions.{literals, designated, arguments, value, tested_value, stored_value, call_in, effect_of, effects, effect}
 use Rattle.c_types_statements.specs.Statements.{At, numbered, past, past_test, past_head, literals_init, literals_in, literals_start, literals_maybe, with_local, with_start, with_names, first_value, no_first_value, stored_first, test_part, effect_part, returned, redeclared_in, home_at, local, locals, start, statement, statements}
 use Rattle.c_types_initial.specs.Constants.{constant_at, is_constant, is_char, datum, data_of, array_value, array_data, shape_data}
 use Rattle.c_types_functions.specs.Functions.{Head, head_of, head_breaches, has_unnamed, is_good_prototype, lacks_main}
@@ -85,21 +87,12 @@ by_cases false j k g h = h
 
 -- ---- operators
 
-value_settled : (p : Place) (d : Designated) → Settled (value_of p d)
-value_settled p (a_value x) = tt
-value_settled p (a_slot ty n) = tt
-value_settled p (a_cell ty at) = tt
-value_settled p (an_element ty at n i) = tt
-value_settled p (an_array ty at n) = tt
-value_settled p (no_value x) = tt
-
 target_settled : (p : Place) (d : Designated) → Settled (target_of p d)
 target_settled p (a_value x) = tt
 target_settled p (a_slot ty n) = tt
 target_settled p (a_cell ty at) = tt
 target_settled p (an_element ty at n i) = tt
 target_settled p (an_array ty at n) = tt
-target_settled p (no_value x) = tt
 
 address_settled : (p : Place) (d : Designated) → Settled (address_of p d)
 address_settled p (a_value x) = tt
@@ -107,15 +100,6 @@ address_settled p (a_slot ty n) = tt
 address_settled p (a_cell ty at) = tt
 address_settled p (an_element ty at n i) = tt
 address_settled p (an_array ty at n) = tt
-address_settled p (no_value x) = tt
-
-effect_value_settled : (p : Place) (d : Designated) → Settled (effect_value p d)
-effect_value_settled p (a_value x) = tt
-effect_value_settled p (a_slot ty n) = tt
-effect_value_settled p (a_cell ty at) = tt
-effect_value_settled p (an_element ty at n i) = tt
-effect_value_settled p (an_array ty at n) = tt
-effect_value_settled p (no_value x) = tt
 
 used_settled : (p : Place) (meant : Option Meant) → Settled (used p meant)
 used_settled p None = tt
@@ -192,16 +176,12 @@ assignment_settled p (Some op) e target x =
 pointer_settled : (p : Place) (i x : Exp) → Settled (indexed_pointer p i x)
 pointer_settled p i x = by_cases (leads (type_of x) && is_integer (type_of i)) _ _ tt tt
 
-at_pointer_settled : (p : Place) (a : c.Exp) (d : Designated) (i : Exp) → Settled (value_of (anchor a) d >>= indexed_pointer p i)
-at_pointer_settled p a d i = after _ _ (value_settled (anchor a) d) (pointer_settled p i)
-
-index_settled : (p : Place) (a : c.Exp) (d : Designated) (i : Exp) → Settled (index_value p a d i)
-index_settled p a (a_value x) i = at_pointer_settled p a (a_value x) i
-index_settled p a (a_slot ty n) i = at_pointer_settled p a (a_slot ty n) i
-index_settled p a (a_cell ty at) i = at_pointer_settled p a (a_cell ty at) i
-index_settled p a (an_element ty at n k) i = at_pointer_settled p a (an_element ty at n k) i
-index_settled p a (an_array ty at n) i = after _ _ (integer_settled p i) (λ y. tt)
-index_settled p a (no_value x) i = tt
+index_settled : (p : Place) (d : Designated) (i : Exp) → Settled (index_value p d i)
+index_settled p (a_value x) i = pointer_settled p i x
+index_settled p (a_slot ty n) i = pointer_settled p i (value_of (a_slot ty n))
+index_settled p (a_cell ty at) i = pointer_settled p i (value_of (a_cell ty at))
+index_settled p (an_element ty at n k) i = pointer_settled p i (value_of (an_element ty at n k))
+index_settled p (an_array ty at n) i = after _ _ (integer_settled p i) (λ y. tt)
 
 cast_settled : (p : Place) (to : ValueType) (x : Exp) → Settled (cast_value p to x)
 cast_settled p to x = by_cases (is_integer to && is_integer (type_of x)) _ _ tt tt
@@ -210,40 +190,37 @@ comma_settled : (p : Place) (xs : Exps) → Settled (comma_of p xs)
 comma_settled p t.no_exp = tt
 comma_settled p (t.an_exp x xs) = tt
 
-based_settled : (e : c.Exp) (d : Designated) → Settled (based_on e d)
-based_settled e d = by_cases (has_value d) _ _ tt tt
+valued_settled : (j : Judged Designated) → Settled j → Settled (valued j)
+valued_settled j h = after j _ h (λ d. tt)
 
-valued_settled : (e : c.Exp) (j : Judged Designated) → Settled j → Settled (valued e j)
-valued_settled e j h = after j _ h (value_settled (anchor e))
+called_value_settled : (p : Place) (meant : Option Meant) (j : Judged Exp) → Settled j → Settled (called_value p meant j)
+called_value_settled p meant j h = by_cases (gives_nothing meant) _ _ tt (after j _ h (λ x. tt))
 
 placed_settled : (e : c.Exp) (j : Judged Designated) → Settled j → Settled (placed e j)
 placed_settled e j h = after j _ h (target_settled (anchor e))
 
 condition_settled : (e : c.Exp) (j : Judged Designated) → Settled j → Settled (condition e j)
-condition_settled e j h = after _ _ (valued_settled e j h) (tested_settled e)
+condition_settled e j h = after _ _ (valued_settled j h) (tested_settled e)
 
 passed_settled : (wanted : List ValueType) (e : c.Exp) (j : Judged Designated) → Settled j → Settled (passed wanted e j)
-passed_settled [] e j h = valued_settled e j h
-passed_settled (ty ∷ more) e j h = after _ _ (valued_settled e j h) (stored_settled ty e)
-
-effect_of_settled : (e : c.Exp) (j : Judged Designated) → Settled j → Settled (effect_of e j)
-effect_of_settled e j h = after j _ h (effect_value_settled (anchor e))
+passed_settled [] e j h = valued_settled j h
+passed_settled (ty ∷ more) e j h = after _ _ (valued_settled j h) (stored_settled ty e)
 
 prefixed : (p : Place) (op : BinaryOp) (a : c.Exp) (j : Judged Designated) → Settled j → Settled (prefix_of p op a j)
 prefixed p op a j h = after _ _ (placed_settled a j h) (prefix_settled p op)
 
-of_value_settled : (p : Place) (op : UnaryOp) (a : c.Exp) (j : Judged Designated) → Settled j → Settled (of_value p op a j)
-of_value_settled p op a j h = after _ _ (valued_settled a j h) (unary_settled p op)
+of_value_settled : (p : Place) (op : UnaryOp) (j : Judged Designated) → Settled j → Settled (of_value p op j)
+of_value_settled p op j h = after _ _ (valued_settled j h) (unary_settled p op)
 
 unary_of_settled : (p : Place) (op : UnaryOp) (a : c.Exp) (j : Judged Designated) → Settled j → Settled (unary_of p op a j)
 unary_of_settled p u.Increment a j h = prefixed p b.Add a j h
 unary_of_settled p u.Decrement a j h = prefixed p b.Sub a j h
 unary_of_settled p u.AddressOf a j h = after _ _ (after j _ h (address_settled (anchor a))) (λ x. tt)
 unary_of_settled p u.Not a j h = after _ _ (condition_settled a j h) (λ x. tt)
-unary_of_settled p u.Dereference a j h = of_value_settled p u.Dereference a j h
-unary_of_settled p u.Plus a j h = of_value_settled p u.Plus a j h
-unary_of_settled p u.Minus a j h = of_value_settled p u.Minus a j h
-unary_of_settled p u.BitNot a j h = of_value_settled p u.BitNot a j h
+unary_of_settled p u.Dereference a j h = of_value_settled p u.Dereference j h
+unary_of_settled p u.Plus a j h = of_value_settled p u.Plus j h
+unary_of_settled p u.Minus a j h = of_value_settled p u.Minus j h
+unary_of_settled p u.BitNot a j h = of_value_settled p u.BitNot j h
 
 -- ---- expressions
 
@@ -255,25 +232,27 @@ mutual
   expression_settled Γ n (c.string p bytes) = tt
   expression_settled Γ n (c.null p) = tt
   expression_settled Γ n (c.eof p) = tt
-  expression_settled Γ n (c.call p x xs) =
-      of_both _ _ _ (called_settled p (argument_number xs) (found x Γ)) (arguments_settled Γ n (wanted (found x Γ)) xs) (λ f ys. tt)
+  expression_settled Γ n (c.call p x xs) = called_value_settled p (found x Γ) _ (call_settled Γ n p x xs)
   expression_settled Γ n (c.index p a i) =
-      of_both _ _ _ (after _ _ (expression_settled Γ n a) (based_settled a)) (valued_settled i _ (expression_settled Γ (n ++ literals a) i)) (index_settled p a)
+      of_both _ _ _ (expression_settled Γ n a) (valued_settled _ (expression_settled Γ (n ++ literals a) i)) (index_settled p)
   expression_settled Γ n (c.postfix p op a) =
       after _ _ (placed_settled a _ (expression_settled Γ n a)) (postfix_settled p (step_of op))
   expression_settled Γ n (c.unary p op a) = unary_of_settled p op a _ (expression_settled Γ n a)
-  expression_settled Γ n (c.cast p ty a) = after _ _ (valued_settled a _ (expression_settled Γ n a)) (cast_settled p (written ty))
+  expression_settled Γ n (c.cast p ty a) = after _ _ (valued_settled _ (expression_settled Γ n a)) (cast_settled p (written ty))
   expression_settled Γ n (c.binary p op d e) =
       by_cases (is_logical op) _ _
       (of_both _ _ _ (condition_settled d _ (expression_settled Γ n d)) (condition_settled e _ (expression_settled Γ (n ++ literals d) e)) (logical_settled op))
-      (of_both _ _ _ (valued_settled d _ (expression_settled Γ n d)) (valued_settled e _ (expression_settled Γ (n ++ literals d) e)) (binary_settled p op d e))
+      (of_both _ _ _ (valued_settled _ (expression_settled Γ n d)) (valued_settled _ (expression_settled Γ (n ++ literals d) e)) (binary_settled p op d e))
   expression_settled Γ n (c.conditional p a d e) =
       of_both _ _ _ (condition_settled a _ (expression_settled Γ n a))
-      (of_both _ _ _ (valued_settled d _ (expression_settled Γ (n ++ literals a) d)) (valued_settled e _ (expression_settled Γ (n ++ literals a ++ literals d) e)) (λ x y. tt))
+      (of_both _ _ _ (valued_settled _ (expression_settled Γ (n ++ literals a) d)) (valued_settled _ (expression_settled Γ (n ++ literals a ++ literals d) e)) (λ x y. tt))
       (conditional_settled p d e)
   expression_settled Γ n (c.assign p op d e) =
-      of_both _ _ _ (placed_settled d _ (expression_settled Γ n d)) (valued_settled e _ (expression_settled Γ (n ++ literals d) e)) (assignment_settled p (within op) e)
+      of_both _ _ _ (placed_settled d _ (expression_settled Γ n d)) (valued_settled _ (expression_settled Γ (n ++ literals d) e)) (assignment_settled p (within op) e)
   expression_settled Γ n (c.comma p xs) = after _ _ (after _ _ (arguments_settled Γ n [] xs) (comma_settled p)) (λ x. tt)
+
+  call_settled : (Γ : Scope) (n : Texts) (p : Place) (x : List ℕ) (xs : c.Exps) → Settled (call_in Γ n p x xs)
+  call_settled Γ n p x xs = of_both _ _ _ (called_settled p (argument_number xs) (found x Γ)) (arguments_settled Γ n (wanted (found x Γ)) xs) (λ f ys. tt)
 
   arguments_settled : (Γ : Scope) (n : Texts) (wanted : List ValueType) (xs : c.Exps) → Settled (arguments Γ n wanted xs)
   arguments_settled Γ n wanted c.no_exp = tt
@@ -281,7 +260,7 @@ mutual
       of_both _ _ _ (passed_settled wanted x _ (expression_settled Γ n x)) (arguments_settled Γ (n ++ literals x) (rest_of wanted) xs) (λ y ys. tt)
 
 whole_settled : (Γ : Scope) (n : Texts) (e : c.Exp) → Settled (value Γ n e)
-whole_settled Γ n e = valued_settled e _ (expression_settled Γ n e)
+whole_settled Γ n e = valued_settled _ (expression_settled Γ n e)
 
 test_settled : (Γ : Scope) (n : Texts) (e : c.Exp) → Settled (tested_value Γ n e)
 test_settled Γ n e = condition_settled e _ (expression_settled Γ n e)
@@ -289,12 +268,26 @@ test_settled Γ n e = condition_settled e _ (expression_settled Γ n e)
 stored_value_settled : (Γ : Scope) (n : Texts) (ty : ValueType) (e : c.Exp) → Settled (stored_value Γ n ty e)
 stored_value_settled Γ n ty e = after _ _ (whole_settled Γ n e) (stored_settled ty e)
 
+plain_effect : (Γ : Scope) (n : Texts) (e : c.Exp) → Settled (effect_of Γ n e)
+plain_effect Γ n (c.name p x) = whole_settled Γ n (c.name p x)
+plain_effect Γ n (c.number p v l) = whole_settled Γ n (c.number p v l)
+plain_effect Γ n (c.character p v) = whole_settled Γ n (c.character p v)
+plain_effect Γ n (c.string p bytes) = whole_settled Γ n (c.string p bytes)
+plain_effect Γ n (c.null p) = whole_settled Γ n (c.null p)
+plain_effect Γ n (c.eof p) = whole_settled Γ n (c.eof p)
+plain_effect Γ n (c.call p x xs) = call_settled Γ n p x xs
+plain_effect Γ n (c.index p a i) = whole_settled Γ n (c.index p a i)
+plain_effect Γ n (c.postfix p op a) = whole_settled Γ n (c.postfix p op a)
+plain_effect Γ n (c.unary p op a) = whole_settled Γ n (c.unary p op a)
+plain_effect Γ n (c.cast p ty a) = whole_settled Γ n (c.cast p ty a)
+plain_effect Γ n (c.binary p op d e) = whole_settled Γ n (c.binary p op d e)
+plain_effect Γ n (c.conditional p a d e) = whole_settled Γ n (c.conditional p a d e)
+plain_effect Γ n (c.assign p op d e) = whole_settled Γ n (c.assign p op d e)
+plain_effect Γ n (c.comma p xs) = whole_settled Γ n (c.comma p xs)
+
 effects_settled : (Γ : Scope) (n : Texts) (xs : c.Exps) → Settled (effects Γ n xs)
 effects_settled Γ n c.no_exp = tt
-effects_settled Γ n (c.an_exp x xs) = of_both _ _ _ (effect_of_settled x _ (expression_settled Γ n x)) (effects_settled Γ (n ++ literals x) xs) (λ y ys. tt)
-
-plain_effect : (Γ : Scope) (n : Texts) (e : c.Exp) → Settled (effect_of e (designated Γ n e))
-plain_effect Γ n e = effect_of_settled e _ (expression_settled Γ n e)
+effects_settled Γ n (c.an_exp x xs) = of_both _ _ _ (plain_effect Γ n x) (effects_settled Γ (n ++ literals x) xs) (λ y ys. tt)
 
 effect_settled : (Γ : Scope) (n : Texts) (e : c.Exp) → Settled (effect Γ n e)
 effect_settled Γ n (c.comma p xs) = after _ _ (effects_settled Γ n xs) (comma_settled p)

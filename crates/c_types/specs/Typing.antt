@@ -1,11 +1,11 @@
 -- What `check` says of a source's tree: its program, or what is wrong with it.
-use Rattle.std.specs.Prelude.{◌≡◌, List, Option, Some, ⊤}
+use Rattle.std.specs.Prelude.{◌≡◌, false, List, [], ◌∷◌, Option, Some, ⊤}
 use Rattle.c_ast.specs.Trees as c
 use Rattle.c_typed.specs.Program.{Program}
 use Rattle.c_types_operators.specs.declared.rule.Breach.{Breach}
-use Rattle.c_types_operators.specs.Rules.{first_breach, number_of, Judged, Fine, Broken}
+use Rattle.c_types_operators.specs.Rules.{first_breach, goes_before, Judged, Fine, Broken}
 use Rattle.c_program.specs.declared.error.CheckErr.{CheckErr}
-use Rattle.c_program.specs.declared.error.CheckErr.TheVariants.{Rule, NoMemory}
+use Rattle.c_program.specs.declared.error.CheckErr.TheVariants.{Rule, Globals, Frame, NoMemory}
 use Rattle.c_program.specs.Limits.{program_of, Limited, limited, Refuses}
 use Rattle.c_types_statements.specs.Statements.{At}
 use Rattle.c_types.specs.Units.{Parts, judged, file_start, past_items}
@@ -31,7 +31,7 @@ verdict unit = verdict_of (judged unit) (past_items unit file_start)
 
 -- There is a breach, and the answer's rule and place are its own, or memory was wanting.
 abbrev pub IsBreach : Option Breach → CheckErr → Type 0
-IsBreach (Some breach) (Rule rule place) = (rule ≡ number_of breach.rule) × (place ≡ breach.place)
+IsBreach (Some breach) (Rule rule place) = (rule ≡ breach.rule) × (place ≡ breach.place)
 IsBreach (Some breach) NoMemory = ⊤
 IsBreach found error = ⊥
 
@@ -39,3 +39,25 @@ IsBreach found error = ⊥
 abbrev pub Refused : Verdict → CheckErr → Type 0
 Refused (keeps_rules said) error = Refuses said error
 Refused (breaks_rule found) error = IsBreach found error
+
+-- ---- the first breach
+
+abbrev pub IsAmong : Breach → List Breach → Type 0
+IsAmong x [] = ⊥
+IsAmong x (y ∷ ys) = (x ≡ y) ⊎ IsAmong x ys
+
+abbrev pub NoneBefore : Breach → List Breach → Type 0
+NoneBefore x [] = ⊤
+NoneBefore x (y ∷ ys) = (goes_before y x ≡ false) × NoneBefore x ys
+
+-- one of these breaches, before which none of them goes
+pub record IsFirst (found : List Breach) (first : Breach) : Type 0 where
+  pub among : IsAmong first found
+  pub none_before : NoneBefore first found
+
+-- A rule that is answered is broken at its place, and none of the breaches goes before that one.
+abbrev pub NamesFirst : List Breach → CheckErr → Type 0
+NamesFirst found (Rule rule place) = IsFirst found (record { rule = rule; place = place })
+NamesFirst found (Globals bytes) = ⊤
+NamesFirst found (Frame bytes) = ⊤
+NamesFirst found NoMemory = ⊤

@@ -13,7 +13,7 @@ use Rattle.c_layout.specs.declared.data.GlobalData.{GlobalData}
 use Rattle.c_layout.specs.Layout.{Texts}
 use Rattle.c_types_homes.specs.Declarators.{declared_name, declared_place, declared_shape, init_of, param_type}
 use Rattle.c_types_homes.specs.Homes.{function_homes, function_given, frame_size}
-use Rattle.c_types_operators.specs.declared.rule.Rule.TheVariants.{NoMain, WrongSignature}
+use Rattle.c_typed.specs.declared.rule.Rule.TheVariants.{NoMain, WrongSignature}
 use Rattle.c_types_operators.specs.declared.rule.Breach.{Breach}
 use Rattle.c_types_operators.specs.declared.scope.Lives.TheVariants.{InMemory}
 use Rattle.c_types_operators.specs.Rules.{Judged, Fine}

@@ -5,24 +5,25 @@ ghost use Rattle.std.specs.Option.{option_map};
 ghost use Rattle.c_ast.specs.TreeViews.{unit_of};
 ghost use Rattle.c_types_functions.specs.Functions.{all_declared, functions_known, lacks_main, redeclared_after, with_body};
 ghost use Rattle.c_types_operators.specs.Parts.{also};
-ghost use Rattle.c_types_operators.specs.Rules.{first_from};
+ghost use Rattle.c_types_operators.specs.Rules.{breaches, first_from};
 ghost use Rattle.c_types_operators.specs.ScopeViews.{functions_of};
 ghost use Rattle.c_program.specs.Checked.{program};
 ghost use Rattle.c_program.specs.Limits.{within};
 ghost use Rattle.c_program.specs.Nodes.{nodes_unit};
 ghost use Rattle.c_types_statements.specs.Keeping.{Finds, Types};
 ghost use Rattle.c_types.specs.Making.{with_items};
-ghost use Rattle.c_types.specs.Typing.{IsBreach, IsTyped, Refused, keeps_rules, verdict};
-ghost use Rattle.c_types.specs.Units.{items, past_items, whole_breaches};
+ghost use Rattle.c_types.specs.Typing.{IsBreach, IsTyped, NamesFirst, Refused, keeps_rules, verdict};
+ghost use Rattle.c_types.specs.Units.{items, judged, past_items, whole_breaches};
 ghost use Rattle.c_types.specs.Views.{Tells, parts_of};
 
 use crate::items::{Made, items};
 use c_ast::Unit;
 use c_program::{CheckErr, Program, node_count};
 use c_scopes::Table;
+use c_typed::Rule;
 use c_types_functions::{bodies, known, lacks_main, prototypes, redeclared, with_body};
 use c_types_operators::notes::Notes;
-use c_types_operators::rule::{Breach, Rule};
+use c_types_operators::rule::Breach;
 use c_types_operators::scope::{Function, Scope};
 use c_types_statements::Walk;
 use ib_base::Place;
@@ -86,13 +87,13 @@ fn refusal(breach: Breach) -> CheckErr
     ensures { IsBreach (Some breach) result }
 {
     CheckErr::Rule {
-        rule: breach.rule.number(),
+        rule: breach.rule,
         place: breach.place,
     }
 }
 
 /// The program of what was made of a file, or the breach that was noted.
-#[tactic(auto, using(crate::proofs::CheckLemmas::refused_broken, crate::proofs::CheckLemmas::no_memory, crate::proofs::CheckLemmas::noted_breach, crate::proofs::CheckLemmas::laid_out, crate::proofs::CheckLemmas::typed, crate::proofs::CheckLemmas::refused_large))]
+#[tactic(auto, using(crate::proofs::CheckLemmas::refused_broken, crate::proofs::CheckLemmas::no_memory, crate::proofs::FirstLemmas::names_no_memory, crate::proofs::CheckLemmas::noted_breach, crate::proofs::CheckLemmas::laid_out, crate::proofs::CheckLemmas::typed, crate::proofs::CheckLemmas::refused_large, crate::proofs::FirstLemmas::names_noted, crate::proofs::FirstLemmas::names_none))]
 fn settle(
     alloc: Global,
     unit: &Unit,
@@ -104,6 +105,7 @@ fn settle(
     ensures typed { IfOk result (λ p. IsTyped (unit_of unit.now) (program p)) }
     ensures nodes { IfOk result (λ p. p.nodes ≡ nodes_unit (unit_of unit.now)) }
     ensures refused { IfErr result (Refused (verdict (unit_of unit.now))) }
+    ensures first { IfErr result (NamesFirst (breaches (judged (unit_of unit.now)))) }
 {
     let Some(made) = made else {
         return Err(refusal(notes.first().unwrap()));
@@ -114,7 +116,7 @@ fn settle(
 }
 
 /// The program of a file with these functions.
-#[tactic(auto, using(crate::proofs::CheckLemmas::told, crate::proofs::CheckLemmas::no_memory))]
+#[tactic(auto, using(crate::proofs::CheckLemmas::told, crate::proofs::CheckLemmas::no_memory, crate::proofs::FirstLemmas::names_no_memory))]
 fn check_with<'a>(
     alloc: Global,
     functions: &Table<'a, Function<'_>>,
@@ -129,6 +131,7 @@ fn check_with<'a>(
     ensures typed { IfOk result (λ p. IsTyped (unit_of unit.now) (program p)) }
     ensures nodes { IfOk result (λ p. p.nodes ≡ nodes_unit (unit_of unit.now)) }
     ensures refused { IfErr result (Refused (verdict (unit_of unit.now))) }
+    ensures first { IfErr result (NamesFirst (breaches (judged (unit_of unit.now)))) }
 {
     let mut walk = Walk::new(alloc, Scope::new(alloc, functions), Notes::new(alloc));
     walk.enter()?;
@@ -139,7 +142,7 @@ fn check_with<'a>(
 /// The program of a source's tree, laid out in memory. `Rule` names the first anchor at which one
 /// of the fourteen rules is broken, and the least rule there; where none is, `Globals` and `Frame`
 /// give the bytes that pass a limit.
-#[tactic(auto, using(crate::proofs::CheckLemmas::no_memory))]
+#[tactic(auto, using(crate::proofs::CheckLemmas::no_memory, crate::proofs::FirstLemmas::names_no_memory))]
 pub fn check(alloc: Global, unit: &Unit) -> Result<Program, CheckErr>
     // What the tree means breaks no rule and is within the limits, and this is its program.
     ensures program { IfOk result (λ p. verdict (unit_of unit.now) ≡ keeps_rules (within (program p))) }
@@ -150,6 +153,9 @@ pub fn check(alloc: Global, unit: &Unit) -> Result<Program, CheckErr>
 
     // The first breach, or the part that is too large.
     ensures refused { IfErr result (Refused (verdict (unit_of unit.now))) }
+
+    // No breach of the tree goes before the one that is answered.
+    ensures first { IfErr result (NamesFirst (breaches (judged (unit_of unit.now)))) }
 {
     let heads = bodies(alloc, unit)?;
     let declared = prototypes(alloc, unit)?;

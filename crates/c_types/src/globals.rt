@@ -11,12 +11,11 @@ ghost use Rattle.c_types.specs.Units.{a_global, with_global, with_globals, globa
 
 use c_ast::{Declarator, Init};
 use c_layout::{Datum, GlobalData, Shape};
-use c_typed::Storage;
+use c_typed::{Rule, Storage};
 use c_types_declarators::is_bad_declarator;
 use c_types_homes::shape_of;
 use c_types_initial::global_data;
 use c_types_operators::calls::both;
-use c_types_operators::rule::Rule;
 use c_types_operators::scope::{Lives, Variable};
 use c_types_statements::Walk;
 use ib_base::Place;

@@ -1,14 +1,14 @@
 //! The heads of a file's functions.
 
 ghost use Rattle.std.specs.Prelude.{◌++◌, IfOk};
-ghost use Rattle.c_types_operators.specs.declared.rule.Rule.TheVariants.{WrongSignature};
+ghost use Rattle.c_typed.specs.declared.rule.Rule.TheVariants.{WrongSignature};
 ghost use Rattle.c_types_operators.specs.Parts.{broken_if};
 ghost use Rattle.c_types_functions.specs.Functions.{head_breaches};
 ghost use Rattle.c_types_functions.specs.Views.{plain_head};
 ghost use Rattle.c_types_statements.specs.Keeping.{Finds};
 
+use c_typed::Rule;
 use c_types_functions::Head;
-use c_types_operators::rule::Rule;
 use c_types_statements::Walk;
 use ib_base::Place;
 use std::alloc::AllocError;

@@ -7,7 +7,7 @@ use Rattle.std.proofs.lemmas.Slice.Eq.{bytes_eq-Decides}
 use Rattle.c_ast.specs.Trees as c
 use Rattle.c_scopes.specs.Scopes.{Named, meaning}
 use Rattle.c_types_homes.specs.Declarators.{param_place}
-use Rattle.c_types_operators.specs.declared.rule.Rule.TheVariants.{Redeclared}
+use Rattle.c_typed.specs.declared.rule.Rule.TheVariants.{Redeclared}
 use Rattle.c_types_operators.specs.declared.rule.Breach.{Breach}
 use Rattle.c_types_operators.specs.Parts.{broken_if}
 use Rattle.c_types_declarators.specs.Declarations.{param_breaches}

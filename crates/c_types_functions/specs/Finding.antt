@@ -4,7 +4,7 @@ use Rattle.c_ast.specs.Trees as c
 use Rattle.c_scopes.specs.Scopes as s
 use Rattle.c_scopes.specs.Scopes.{meaning, with_name}
 use Rattle.c_types_homes.specs.Declarators.{param_place}
-use Rattle.c_types_operators.specs.declared.rule.Rule.TheVariants.{Redeclared}
+use Rattle.c_typed.specs.declared.rule.Rule.TheVariants.{Redeclared}
 use Rattle.c_types_operators.specs.declared.rule.Breach.{Breach}
 use Rattle.c_types_operators.specs.Judging.{Noted, noted}
 use Rattle.c_types_operators.specs.Parts.{broken_if}

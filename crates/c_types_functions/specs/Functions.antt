@@ -10,7 +10,7 @@ use Rattle.c_typed.specs.ValueTypes.{int, long, written, same_type}
 use Rattle.c_scopes.specs.Scopes as s
 use Rattle.c_scopes.specs.Scopes.{Named, meaning, with_name}
 use Rattle.c_types_homes.specs.Declarators.{declared_name, declared_place, param_type, param_name, param_place}
-use Rattle.c_types_operators.specs.declared.rule.Rule.TheVariants.{Redeclared, WrongSignature, BadType}
+use Rattle.c_typed.specs.declared.rule.Rule.TheVariants.{Redeclared, WrongSignature, BadType}
 use Rattle.c_types_operators.specs.declared.rule.Breach.{Breach}
 use Rattle.c_types_operators.specs.declared.scope.Callee.{Callee}
 use Rattle.c_types_operators.specs.declared.scope.Callee.TheVariants.{Body, GetChar, PutChar, PutInt}
@@ -74,9 +74,9 @@ all_named scope (entry ∷ entries) = all_named (with_name entry.name entry.mean
 abbrev pub by_bodies : List Head → s.Scope Function
 by_bodies heads = all_named [] (numbered 0 heads)
 
--- by its first body, or as it is built in, or by its first prototype
+-- as it is built in, or by its first body, or by its first prototype
 abbrev pub by_heads : (bodied prototyped : List Head) → s.Scope Function
-by_heads bodied prototyped = all_named (all_named (by_bodies bodied) built_in) (map (running (length bodied)) prototyped)
+by_heads bodied prototyped = all_named (all_named built_in (numbered 0 bodied)) (map (running (length bodied)) prototyped)
 
 abbrev pub with_body : List c.Top → s.Scope Function
 with_body unit = by_bodies (bodies unit)

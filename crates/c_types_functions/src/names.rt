@@ -10,8 +10,8 @@ use crate::judging::keeps;
 use crate::tables::built_in;
 use c_ast::{Declarator, FunctionHead, Item, Unit};
 use c_scopes::Table;
+use c_typed::Rule;
 use c_types_operators::notes::Notes;
-use c_types_operators::rule::Rule;
 use std::alloc::{AllocError, Global};
 use std::marker::Model;
 

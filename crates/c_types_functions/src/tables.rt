@@ -2,7 +2,7 @@ ghost use Rattle.std.specs.Prelude.{◌≡◌, map, IfOk, OnOk};
 ghost use Rattle.std.specs.Option.{option_map};
 ghost use Rattle.c_scopes.specs.Scopes.{meaning};
 ghost use Rattle.c_types_operators.specs.ScopeViews.{function_of, functions_of};
-ghost use Rattle.c_types_functions.specs.Functions.{all_named, by_bodies, by_heads, built_in, running};
+ghost use Rattle.c_types_functions.specs.Functions.{all_named, by_bodies, by_heads, built_in, numbered, running};
 ghost use Rattle.c_types_functions.specs.Views.{plain_head};
 
 use crate::heads::Head;
@@ -59,21 +59,32 @@ impl<'a> Head<'a> {
     }
 }
 
-/// The functions of a file by the heads of their first bodies. More bodies than a `u32` counts
-/// find no memory.
+/// With the functions of these heads, which run bodies from number 0 on; a name that is known
+/// keeps its meaning. More bodies than a `u32` counts find no memory.
+fn and_bodies<'a, 's>(
+    table: &mut Table<'a, Function<'s>>,
+    bodies: &'s [Head<'a>],
+) -> Result<(), AllocError>
+    ensures { OnOk result (functions_of table.new ≡ all_named (functions_of table.old) (numbered 0 (map plain_head bodies.now))) }
+{
+    let mut number = 0u32;
+    for head in bodies {
+        table.declare(head.name(), head.running(number))?;
+        number = number.checked_add(1).ok_or(AllocError)?;
+    }
+    Ok(())
+}
+
+/// The functions of a file by the heads of their first bodies.
 pub fn with_body<'a, 's>(
     alloc: Global,
     bodies: &'s [Head<'a>],
 ) -> Result<Table<'a, Function<'s>>, AllocError>
     ensures { IfOk result (λ table. functions_of table ≡ by_bodies (map plain_head bodies.now)) }
 {
-    let mut table = Table::new(alloc);
-    let mut number = 0u32;
-    for head in bodies {
-        table.declare(head.name(), head.running(number))?;
-        number = number.checked_add(1).ok_or(AllocError)?;
-    }
-    Ok(table)
+    let mut bodied = Table::new(alloc);
+    and_bodies(&mut bodied, bodies)?;
+    Ok(bodied)
 }
 
 #[tactic(auto, using(crate::proofs::TableLemmas::functions_more))]
@@ -86,8 +97,8 @@ fn and_built_in(table: &mut Table<'_, Function<'_>>) -> Result<(), AllocError>
     Ok(())
 }
 
-/// The functions that a file knows: by their first bodies, as they are built in, or by their first
-/// prototypes. More bodies than a `u32` counts find no memory.
+/// The functions that a file knows: as they are built in, or by their first bodies, or by their
+/// first prototypes.
 pub fn known<'a, 's>(
     alloc: Global,
     bodies: &'s [Head<'a>],
@@ -95,8 +106,9 @@ pub fn known<'a, 's>(
 ) -> Result<Table<'a, Function<'s>>, AllocError>
     ensures { IfOk result (λ table. functions_of table ≡ by_heads (map plain_head bodies.now) (map plain_head prototypes.now)) }
 {
-    let mut table = with_body(alloc, bodies)?;
+    let mut table = Table::new(alloc);
     and_built_in(&mut table)?;
+    and_bodies(&mut table, bodies)?;
     let number = u32::try_from(bodies.len()).ok().ok_or(AllocError)?;
     for head in prototypes {
         table.declare(head.name(), head.running(number))?;

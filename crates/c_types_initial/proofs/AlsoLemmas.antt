@@ -3,7 +3,7 @@ use Rattle.std.proofs.Common.{◌≡◌, refl, ap, sym, ◌∙◌, subst, List, 
 use Rattle.std.proofs.lemmas.List.{append-nil}
 use Rattle.ib_meaning.specs.declared.place.Place.{Place}
 use Rattle.c_layout.specs.Layout.{Texts}
-use Rattle.c_types_operators.specs.declared.rule.Rule.{Rule}
+use Rattle.c_typed.specs.declared.rule.Rule.{Rule}
 use Rattle.c_types_operators.specs.declared.rule.Breach.{Breach}
 use Rattle.c_types_operators.specs.Rules.{Judged, breaches}
 use Rattle.c_types_operators.specs.Parts.{breach, broken_if, also, misplaced}

@@ -1,3 +1,4 @@
 mod AlsoLemmas
 mod ArrayLemmas
 mod ListLemmas
+mod Worked

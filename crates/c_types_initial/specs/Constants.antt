@@ -1,20 +1,19 @@
 -- What globals hold at first, and which rules their initialisers break.
 use Rattle.std.specs.Prelude.{ℕ, zero, suc, nat_lt, nat_le, ◌&&◌, not, Bool, true, false, ℤ, pos, List, [], ◌∷◌, ◌++◌, length, map, take, if◌then◌else◌}
 use Rattle.ib_meaning.specs.declared.place.Place.{Place}
-use Rattle.ib_base.specs.Integers.{wrapped}
 use Rattle.c_ast.specs.declared.tree.Base.TheVariants.{Char}
 use Rattle.c_ast.specs.declared.tree.UnaryOp.TheVariants as u
 use Rattle.c_ast.specs.Trees as c
 use Rattle.c_typed.specs.declared.types.ValueType.{ValueType}
 use Rattle.c_typed.specs.declared.types.ValueType.TheVariants as v
 use Rattle.c_typed.specs.Tree as t
-use Rattle.c_typed.specs.Values.{signed, width_of, ranked}
+use Rattle.c_typed.specs.Values.{converted, signed, ranked}
 use Rattle.c_layout.specs.declared.shape.Shape.{Shape}
 use Rattle.c_layout.specs.declared.shape.Shape.TheVariants.{Scalar, Array}
 use Rattle.c_layout.specs.declared.data.Datum.{Datum}
 use Rattle.c_layout.specs.declared.data.Datum.TheVariants.{Number, Text}
 use Rattle.c_layout.specs.Layout.{Texts}
-use Rattle.c_types_operators.specs.declared.rule.Rule.TheVariants.{NotAssignable, WrongInitialiser}
+use Rattle.c_typed.specs.declared.rule.Rule.TheVariants.{NotAssignable, WrongInitialiser}
 use Rattle.c_types_operators.specs.Rules.{Judged, Fine, breaks, ◌>>=◌}
 use Rattle.c_types_operators.specs.Scopes.{Scope}
 use Rattle.c_types_operators.specs.Operators.{anchor}
@@ -49,7 +48,7 @@ is_constant ty x = is_constant_number x
 abbrev pub number_of : t.Exp → ℤ
 number_of (t.constant ty n) = n
 number_of (t.unary op rank x) = signed op (ranked rank) (number_of x)
-number_of (t.convert to x) = wrapped (width_of to) (number_of x)
+number_of (t.convert to x) = converted to (number_of x)
 number_of x = pos 0
 
 abbrev pub datum_of : t.Exp → Datum

@@ -4,7 +4,5 @@
 mod constants;
 mod initial;
 mod parts;
-#[cfg(test)]
-mod tests;
 
 pub use initial::global_data;

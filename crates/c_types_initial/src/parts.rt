@@ -2,19 +2,18 @@
 
 ghost use Rattle.std.specs.Prelude.{◌≡◌, ◌++◌, ◌∷◌, [], None, if◌then◌else◌, IfOk};
 ghost use Rattle.c_ast.specs.TreeViews as source;
-ghost use Rattle.c_typed.specs.Views.{expr_of};
 ghost use Rattle.c_types_operators.specs.Rules.{Fine};
 ghost use Rattle.c_types_operators.specs.Parts.{broken_if, ◌<*>◌};
 ghost use Rattle.c_types_operators.specs.Judging.{Noted, noted, Carries, CarriesBoth};
+ghost use Rattle.c_typed.specs.Views.{boxed_of};
 ghost use Rattle.c_types_initial.specs.Constants.{datum_of, only, unfit};
 
 use crate::constants;
 use c_layout::Datum;
-use c_typed::Expr;
+use c_typed::{Expr, Rule};
 use c_types_operators::calls::both;
 use c_types_operators::nodes;
 use c_types_operators::notes::Notes;
-use c_types_operators::rule::Rule;
 use ib_base::Place;
 use sqlite_items::Items;
 use std::alloc::{AllocError, Global};
@@ -37,8 +36,8 @@ pub(crate) fn unless<A: Drop>(broken: bool, part: Option<A>) -> Option<A>
 }
 
 /// What an element holds that is given this value.
-pub(crate) fn datum(part: Option<Expr>) -> Option<Datum>
-    ensures { (now : Noted) → Carries expr_of (λ held. held) part now (λ j. Fine datum_of <*> j) result now }
+pub(crate) fn datum(part: Option<Box<Expr>>) -> Option<Datum>
+    ensures { (now : Noted) → Carries boxed_of (λ held. held) part now (λ j. Fine datum_of <*> j) result now }
 {
     match part {
         Some(x) => Some(constants::datum_of(&x)),
@@ -79,9 +78,9 @@ pub(crate) fn another(
 pub(crate) fn unfit(
     notes: &mut Notes<'_>,
     e: &c_ast::Expr,
-    part: Option<Expr>,
+    part: Option<Box<Expr>>,
 ) -> Option<Items<Datum>>
-    ensures { Carries expr_of (λ held. held) part notes.old (unfit (source.expr_of e.now)) result notes.new }
+    ensures { Carries boxed_of (λ held. held) part notes.old (unfit (source.expr_of e.now)) result notes.new }
 {
     match part {
         Some(x) => {

@@ -1,7 +1,9 @@
-use Rattle.std.proofs.Common.{◌≡◌, ◌+◌, refl, ap, ap₂, sym, ◌∙◌, map, drop, length, rules}
+use Rattle.std.proofs.Common.{◌≡◌, List, ◌+◌, refl, ap, ap₂, sym, ◌∙◌, map, drop, length, rules}
 use Rattle.std.proofs.lemmas.List.{length-map}
+use Rattle.c_scopes.specs.Scopes.{Named}
+use Rattle.c_types_operators.specs.declared.scope.Function as code_function
 use Rattle.c_types_operators.specs.ScopeViews.{functions_of}
-use Rattle.c_types_functions.specs.Functions.{all_named, running, built_in, by_heads}
+use Rattle.c_types_functions.specs.Functions.{all_named, numbered, running, built_in, by_heads}
 use Rattle.c_types_functions.specs.Views.{plain_head}
 use Rattle.c_types_functions.proofs.LoopLemmas.{next, with_next}
 use Rattle.c_types_functions.proofs.tables.known.Goals as goal
@@ -10,7 +12,9 @@ pub loop-head-init : goal.loop-head-init
 loop-head-init c =
     let number : c.in_ok-number.number ≡ length (map plain_head c.args.bodies.now) = search (rules, length-map c.args.bodies.now plain_head) in
     ap₂ (λ t n. all_named t (map (running n) (map plain_head c.args.prototypes.now)))
-    (c.in_ok-and_built_in.ensures ∙ ap (λ t. all_named t built_in) c.in_ok-table.ensures) number
+    (c.in_ok-and_bodies.ensures
+    ∙ ap (λ t. all_named t (numbered 0 (map plain_head c.args.bodies.now)))
+    (c.in_ok-and_built_in.ensures ∙ ap (λ (t : List (Named code_function.Function)). all_named (functions_of t) built_in) c.new-table.ensures)) number
 
 pub loop-head-preserved : goal.loop-head-preserved
 loop-head-preserved c =

@@ -1,7 +1,7 @@
 use Rattle.std.proofs.Common.{◌≡◌, refl, map, ap, sym, length, nat_lt, rules}
 use Rattle.std.proofs.lemmas.List.{length-map}
 use Rattle.c_ast.specs.TreeViews.{expr_of}
-use Rattle.c_types_operators.specs.declared.rule.Rule.TheVariants.{WrongInitialiser}
+use Rattle.c_typed.specs.declared.rule.Rule.TheVariants.{WrongInitialiser}
 use Rattle.c_types_operators.specs.Rules.{Fine}
 use Rattle.c_types_operators.proofs.JudgingLemmas.{fine}
 use Rattle.c_types_initial.specs.Constants.{data_of}

@@ -1,6 +1,6 @@
 use Rattle.std.proofs.Common.{ap, not}
 use Rattle.c_ast.specs.TreeViews.{expr_of}
-use Rattle.c_types_operators.specs.declared.rule.Rule.TheVariants.{WrongInitialiser}
+use Rattle.c_typed.specs.declared.rule.Rule.TheVariants.{WrongInitialiser}
 use Rattle.c_types_expressions.specs.Expressions.{value}
 use Rattle.c_types_initial.specs.Constants.{is_constant, unfit}
 use Rattle.c_types_initial.proofs.AlsoLemmas.{also_judged}

@@ -1,6 +1,6 @@
 use Rattle.std.proofs.Common.{ap, not}
 use Rattle.c_ast.specs.TreeViews.{expr_of}
-use Rattle.c_types_operators.specs.declared.rule.Rule.TheVariants.{WrongInitialiser}
+use Rattle.c_typed.specs.declared.rule.Rule.TheVariants.{WrongInitialiser}
 use Rattle.c_types_operators.specs.Rules.{Fine}
 use Rattle.c_types_operators.specs.Parts.{◌<*>◌}
 use Rattle.c_types_expressions.specs.Expressions.{stored_value}

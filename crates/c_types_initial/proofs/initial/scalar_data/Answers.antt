@@ -1,7 +1,7 @@
 use Rattle.std.proofs.Common.{refl, map, ap, sym}
 use Rattle.c_ast.specs.Trees as tree
 use Rattle.c_ast.specs.TreeViews.{expr_of}
-use Rattle.c_types_operators.specs.declared.rule.Rule.TheVariants.{WrongInitialiser}
+use Rattle.c_typed.specs.declared.rule.Rule.TheVariants.{WrongInitialiser}
 use Rattle.c_types_operators.specs.Rules.{Fine}
 use Rattle.c_types_operators.proofs.JudgingLemmas.{fine}
 use Rattle.c_types_expressions.specs.Expressions.{values}

@@ -1,9 +1,9 @@
 use Rattle.std.proofs.Common.{◌≡◌, ◌+◌, suc, refl, ap, sym, ◌∙◌, subst, map, drop, rules}
 use Rattle.c_types_operators.specs.ScopeViews.{functions_of}
-use Rattle.c_types_functions.specs.Functions.{all_named, numbered, running, by_bodies}
+use Rattle.c_types_functions.specs.Functions.{all_named, numbered, running}
 use Rattle.c_types_functions.specs.Views.{plain_head}
 use Rattle.c_types_functions.proofs.LoopLemmas.{next, with_next}
-use Rattle.c_types_functions.proofs.tables.with_body.Goals as goal
+use Rattle.c_types_functions.proofs.tables.and_bodies.Goals as goal
 
 pub loop-head-preserved : goal.loop-head-preserved
 loop-head-preserved c =
@@ -11,7 +11,7 @@ loop-head-preserved c =
     let k = c.loop-head.number in
     let head = c.head-item.result in
     let rest = map plain_head (drop (c.loop-head.head-index + 1) heads) in
-    let all = by_bodies (map plain_head heads) in
+    let all = all_named (functions_of c.args.table.now) (numbered 0 (map plain_head heads)) in
     let number : c.in_ok-number.number ≡ suc k = search rules in
     let left = next heads heads c.loop-head.head-index head refl c.loop-head-test.true c.head-item.is in
     subst (λ n. all_named (functions_of c.declare.new.self) (numbered n rest) ≡ all) (sym number)

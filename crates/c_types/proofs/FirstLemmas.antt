@@ -1,9 +1,10 @@
 -- The breach that is answered is the first: it is one of those that are found, and none of them goes before it.
-use Rattle.std.proofs.Common.{◌≡◌, refl, ap, sym, ◌∙◌, subst, ℕ, nat_lt, ◌==◌, ◌&&◌, ◌||◌, Bool, true, false, cond, List, [], ◌∷◌, Option, Some, None, arith}
+use Rattle.std.proofs.Common.{◌≡◌, inl, inr, refl, ap, sym, ◌∙◌, subst, ℕ, nat_lt, ◌==◌, ◌&&◌, ◌||◌, Bool, true, false, cond, List, [], ◌∷◌, Option, Some, None, arith}
 use Rattle.std.proofs.lemmas.Bool.Decides.{nat_tests}
 use Rattle.ib_meaning.specs.declared.place.Place.{Place}
 use Rattle.c_ast.specs.Trees as c
 use Rattle.c_typed.specs.Rules.{number_of}
+use Rattle.c_typed.specs.declared.rule.Rule.{Rule as BrokenRule}
 use Rattle.c_types_operators.specs.declared.rule.Breach.{Breach}
 use Rattle.c_types_operators.specs.Rules.{goes_before, first_from, first_breach, breaches}
 use Rattle.c_types_operators.specs.Judging.{Noted}
@@ -57,14 +58,16 @@ kept x y b ys is h = record {
 some-same : {A : Type 0} {a b : A} → Some a ≡ Some b → a ≡ b
 some-same e = cc
 
+-- what goes before decides which of the two stays, and so which of what is known of them is used
+behind_test : (x y b : Breach) (ys : List Breach) (t : Bool) → goes_before y x ≡ t → first_from (cond t (Some y) (Some x)) ys ≡ Some b → (first_from (Some y) ys ≡ Some b → IsFirst (y ∷ ys) b) → (first_from (Some x) ys ≡ Some b → IsFirst (x ∷ ys) b) → IsFirst (x ∷ (y ∷ ys)) b
+behind_test x y b ys true is e if_y if_x = overtaken x y b ys is (if_y e)
+behind_test x y b ys false is e if_y if_x = kept x y b ys is (if_x e)
+
 first_among : (x b : Breach) (ys : List Breach) → first_from (Some x) ys ≡ Some b → IsFirst (x ∷ ys) b
 first_among x b [] e =
     let is : x ≡ b = some-same e in
     subst (λ (y : Breach). IsFirst (x ∷ []) y) is (record { among = inl refl; none_before = (never_itself x, tt) })
-first_among x b (y ∷ ys) e = by_test (goes_before y x) refl e where
-  by_test : (t : Bool) → goes_before y x ≡ t → first_from (cond t (Some y) (Some x)) ys ≡ Some b → IsFirst (x ∷ (y ∷ ys)) b
-  by_test true is e = overtaken x y b ys is (first_among y b ys e)
-  by_test false is e = kept x y b ys is (first_among x b ys e)
+first_among x b (y ∷ ys) e = behind_test x y b ys (goes_before y x) refl e (first_among y b ys) (first_among x b ys)
 
 first_is_first : (found : List Breach) (b : Breach) → first_breach found ≡ Some b → IsFirst found b
 first_is_first [] b e = let no : false ≡ true = cc in cc
@@ -75,8 +78,8 @@ first_is_first (x ∷ xs) b e = first_among x b xs e
 named_first : (found : List Breach) (first : Option Breach) (error : CheckErr) → first_breach found ≡ first → IsBreach first error → NamesFirst found error
 named_first found None (Rule rule place) e is = absurd is
 named_first found (Some b) (Rule rule place) e is =
-    let same : b ≡ record { rule = rule; place = place } = cc in
-    subst (λ (x : Breach). IsFirst found x) same (first_is_first found b e)
+    subst (λ (p : Place). IsFirst found (record { rule = rule; place = p })) (sym is.1)
+    (subst (λ (r : BrokenRule). IsFirst found (record { rule = r; place = b.place })) (sym is.0) (first_is_first found b e))
 named_first found first (Globals bytes) e is = tt
 named_first found first (Frame bytes) e is = tt
 named_first found first NoMemory e is = tt

@@ -232,7 +232,9 @@ mutual
   expression_settled Γ n (c.string p bytes) = tt
   expression_settled Γ n (c.null p) = tt
   expression_settled Γ n (c.eof p) = tt
-  expression_settled Γ n (c.call p x xs) = called_value_settled p (found x Γ) _ (call_settled Γ n p x xs)
+  expression_settled Γ n (c.call p x xs) =
+      called_value_settled p (found x Γ) _
+      (of_both _ _ _ (called_settled p (argument_number xs) (found x Γ)) (arguments_settled Γ n (wanted (found x Γ)) xs) (λ f ys. tt))
   expression_settled Γ n (c.index p a i) =
       of_both _ _ _ (expression_settled Γ n a) (valued_settled _ (expression_settled Γ (n ++ literals a) i)) (index_settled p)
   expression_settled Γ n (c.postfix p op a) =
@@ -251,13 +253,13 @@ mutual
       of_both _ _ _ (placed_settled d _ (expression_settled Γ n d)) (valued_settled _ (expression_settled Γ (n ++ literals d) e)) (assignment_settled p (within op) e)
   expression_settled Γ n (c.comma p xs) = after _ _ (after _ _ (arguments_settled Γ n [] xs) (comma_settled p)) (λ x. tt)
 
-  call_settled : (Γ : Scope) (n : Texts) (p : Place) (x : List ℕ) (xs : c.Exps) → Settled (call_in Γ n p x xs)
-  call_settled Γ n p x xs = of_both _ _ _ (called_settled p (argument_number xs) (found x Γ)) (arguments_settled Γ n (wanted (found x Γ)) xs) (λ f ys. tt)
-
   arguments_settled : (Γ : Scope) (n : Texts) (wanted : List ValueType) (xs : c.Exps) → Settled (arguments Γ n wanted xs)
   arguments_settled Γ n wanted c.no_exp = tt
   arguments_settled Γ n wanted (c.an_exp x xs) =
       of_both _ _ _ (passed_settled wanted x _ (expression_settled Γ n x)) (arguments_settled Γ (n ++ literals x) (rest_of wanted) xs) (λ y ys. tt)
+
+call_settled : (Γ : Scope) (n : Texts) (p : Place) (x : List ℕ) (xs : c.Exps) → Settled (call_in Γ n p x xs)
+call_settled Γ n p x xs = of_both _ _ _ (called_settled p (argument_number xs) (found x Γ)) (arguments_settled Γ n (wanted (found x Γ)) xs) (λ f ys. tt)
 
 whole_settled : (Γ : Scope) (n : Texts) (e : c.Exp) → Settled (value Γ n e)
 whole_settled Γ n e = valued_settled _ (expression_settled Γ n e)

@@ -1,5 +1,5 @@
 -- What `check` says of a source's tree: its program, or what is wrong with it.
-use Rattle.std.specs.Prelude.{◌≡◌, false, List, [], ◌∷◌, Option, Some, ⊤}
+use Rattle.std.specs.Prelude.{◌≡◌, ◌⊎◌, false, List, [], ◌∷◌, Option, Some, ⊤}
 use Rattle.c_ast.specs.Trees as c
 use Rattle.c_typed.specs.Program.{Program}
 use Rattle.c_types_operators.specs.declared.rule.Breach.{Breach}

@@ -5,7 +5,7 @@ use Rattle.c_types_operators.proofs.PartLemmas.{carries_some, carries_none}
 use Rattle.c_types_initial.proofs.parts.datum.Goals as goal
 
 pub returns-in-Some : goal.returns-in-Some
-returns-in-Some c = λ now. carries_some c.in-Some.is (fine _ (ap (λ d. Fine d) (sym (rw c.deref.ensures.value at c.datum_of.ensures))) refl)
+returns-in-Some c = λ now. carries_some c.in-Some.is (fine _ (ap (λ d. Fine d) (sym (rw c.deref.ensures at c.datum_of.ensures))) refl)
 
 pub returns-in-None : goal.returns-in-None
 returns-in-None c = λ now. carries_none (λ found. refl) c.in-None.is

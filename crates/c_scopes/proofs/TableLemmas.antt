@@ -1,11 +1,11 @@
 -- A name means what the table holds for it.
-use Rattle.std.proofs.Common.{◌≡◌, refl, ap, sym, ◌∙◌, ℕ, List, [], ◌∷◌, ◌++◌, Option, Some, None, Bool, true, false, cond, map, bytes_eq, is_some, true≢false, reverse}
+use Rattle.std.proofs.Common.{◌≡◌, refl, ap, sym, ◌∙◌, ℕ, List, [], ◌∷◌, ◌++◌, Option, Some, None, Bool, false, cond, bytes_eq, is_some, true≢false, reverse}
 use Rattle.std.proofs.lemmas.List.{reverse-append}
 use Rattle.std.specs.Borrow.{Bor}
 use Rattle.std.specs.Map.{lookup}
 use Rattle.indexmap.specs.IndexMap.{IndexMap, insert_entry}
 use Rattle.indexmap.proofs.CallerLemmas.{insert_entry-new}
-use Rattle.c_scopes.specs.Scopes.{Named, Scope, scope_of, meaning, with_name, found, or_outer}
+use Rattle.c_scopes.specs.Scopes.{Scope, scope_of, meaning, with_name, first_meaning, or_outer}
 
 pub meaning-lookup : {A : Type 0} (name : List ℕ) (entries : List (Bor (List ℕ) × A)) → meaning name (scope_of entries) ≡ lookup (λ (key : Bor (List ℕ)). bytes_eq name key.now) entries
 meaning-lookup name [] = refl
@@ -39,5 +39,5 @@ declared_is m name meant before known view finds new =
     declared_new m name meant (ap (λ scope. is_some (meaning name.now scope)) view ∙ (ap is_some (sym finds) ∙ new)) ∙ ap (with_name name.now meant) view
 
 -- the last table is the innermost scope
-pub found-last : {A : Type 0} (name : List ℕ) (outer : List (Scope A)) (innermost : Scope A) → found name (reverse (outer ++ innermost ∷ [])) ≡ or_outer (meaning name innermost) (found name (reverse outer))
-found-last name outer innermost = ap (found name) (reverse-append outer (innermost ∷ []))
+pub found-last : {A : Type 0} (name : List ℕ) (around : List (Scope A)) (innermost : Scope A) → first_meaning name (reverse (around ++ innermost ∷ [])) ≡ or_outer (meaning name innermost) (first_meaning name (reverse around))
+found-last name around innermost = ap (first_meaning name) (reverse-append around (innermost ∷ []))

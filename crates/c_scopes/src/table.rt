@@ -28,6 +28,14 @@ impl<'a, T: Copy> Table<'a, T> {
         }
     }
 
+    /// Forgets all names.
+    pub fn clear(&mut self)
+        ensures { self.new ≡ [] }
+    {
+        self.meanings.clear();
+    }
+
+    /// What a name means here.
     pub fn find(&self, name: &[u8]) -> Option<T>
         ensures { result ≡ meaning name.now self.now }
     {
@@ -38,6 +46,7 @@ impl<'a, T: Copy> Table<'a, T> {
     pub fn declare(&mut self, name: &'a [u8], meant: T) -> Result<bool, AllocError>
         ensures new { IfOk result (λ new. new ≡ not (is_some (meaning name.now self.old))) }
         ensures names { OnOk result (self.new ≡ with_name name.now meant self.old) }
+        ensures same { OnErr result (self.new ≡ self.old) }
     {
         if self.find(name).is_some() {
             return Ok(false);

@@ -1,5 +1,5 @@
 -- Functions with a body: their parameters one behind the other, and the scope that closes behind them.
-use Rattle.std.proofs.Common.{◌≡◌, refl, ap, sym, ◌∙◌, subst, ℕ, suc, ◌+◌, arith, Bool, false, cond, List, [], ◌∷◌, ◌++◌, length, length-append, drop, Option, Some, None}
+use Rattle.std.proofs.Common.{◌≡◌, refl, ap, sym, ◌∙◌, subst, ℕ, suc, ◌+◌, arith, Bool, false, cond, List, [], ◌∷◌, ◌++◌, length, length-append, Option, Some, None}
 use Rattle.std.proofs.lemmas.List.{append-nil, append_assoc}
 use Rattle.c_ast.specs.Trees as c
 use Rattle.c_typed.specs.declared.types.ValueType.{ValueType}
@@ -7,57 +7,26 @@ use Rattle.c_typed.specs.declared.program.Home.{Home}
 use Rattle.c_typed.specs.declared.program.Param.{Param}
 use Rattle.c_typed.specs.Tree as t
 use Rattle.c_scopes.specs.Scopes as s
-use Rattle.c_scopes.specs.Scopes.{declared}
 use Rattle.c_types_homes.specs.Addressed.{variables}
 use Rattle.c_types_homes.specs.Homes.{function_homes, function_given, frame_size}
 use Rattle.c_typed.specs.declared.rule.Rule.TheVariants.{WrongSignature}
-use Rattle.c_types_operators.specs.declared.scope.Variable.{Variable}
 use Rattle.c_types_operators.specs.Rules.{Fine}
-use Rattle.c_types_operators.specs.Scopes.{Scope, inner, outer, with_variable}
+use Rattle.c_types_operators.specs.Scopes.{Scope, inner, outer}
 use Rattle.c_types_operators.specs.Parts.{broken_if, ◌<*>◌}
 use Rattle.c_types_functions.specs.Functions.{Head, has_unnamed, head_breaches}
-use Rattle.c_types_statements.specs.Statements.{At, statements, with_local, with_locals, with_names}
+use Rattle.c_types_statements.specs.Statements.{At, statements}
 use Rattle.c_types_statements.specs.Keeping.{Seen, Types, Finds, ◌<?>◌, past_all, with_names_of}
 use Rattle.c_types_statements.proofs.Typed.{makes, with_part, also_typed}
+use Rattle.c_types_statements.proofs.Behind.{by_statements}
 use Rattle.c_types.specs.Making.{and_param, and_params, param_at, body_in, past_body, function_with}
 use Rattle.c_types.specs.Units.{with_param, with_params, params_typed, body, a_function, function}
 
 -- ---- scopes
 
--- A declaration leaves the outer scopes as they are.
-tail_of : {A : Type 0} (name : List ℕ) (meant : A) (scopes : List (s.Scope A)) → drop 1 (declared name meant scopes) ≡ drop 1 scopes
-tail_of name meant [] = refl
-tail_of name meant (scope ∷ scopes) = refl
-
-by_variable : (name : List ℕ) (v : Variable) (Γ : Scope) → outer (with_variable name v Γ) ≡ outer Γ
-by_variable name v Γ = ap (λ scopes. record Γ { scopes = scopes }) (tail_of name v Γ.scopes)
-
-by_locals : (homes : List Home) (k : ℕ) (ds : List c.Decl) (Γ : Scope) → outer (with_locals homes k ds Γ) ≡ outer Γ
-by_locals homes k [] Γ = refl
-by_locals homes k (d ∷ ds) Γ = by_locals homes (suc k) ds (with_local homes k d Γ) ∙ by_variable _ _ Γ
-
-by_statement : (homes : List Home) (k : ℕ) (x : c.Stm) (Γ : Scope) → outer (with_names homes k x Γ) ≡ outer Γ
-by_statement homes k (c.block p xs) Γ = refl
-by_statement homes k (c.empty p) Γ = refl
-by_statement homes k (c.expression p x) Γ = refl
-by_statement homes k (c.if_then p x a) Γ = refl
-by_statement homes k (c.if_else p x a b) Γ = refl
-by_statement homes k (c.while_loop p x a) Γ = refl
-by_statement homes k (c.do_while p a x) Γ = refl
-by_statement homes k (c.for_loop p start x y a) Γ = refl
-by_statement homes k (c.break p) Γ = refl
-by_statement homes k (c.continue p) Γ = refl
-by_statement homes k (c.return p x) Γ = refl
-by_statement homes k (c.local p ds) Γ = by_locals homes k ds Γ
-
-by_statements : (homes : List Home) (k : ℕ) (all : c.Stms) (Γ : Scope) → outer (with_names_of homes k all Γ) ≡ outer Γ
-by_statements homes k c.no_stm Γ = refl
-by_statements homes k (c.a_stm x rest) Γ = by_statements homes (k + length (variables x)) rest (with_names homes k x Γ) ∙ by_statement homes k x Γ
-
 by_params : (homes : List Home) (k : ℕ) (xs : List c.Par) (Γ : Scope) → outer (with_params homes k xs Γ) ≡ outer Γ
 by_params homes k [] Γ = refl
 by_params homes k (c.param p ty c.unnamed m ∷ xs) Γ = by_params homes (suc k) xs Γ
-by_params homes k (c.param p ty (c.named name) m ∷ xs) Γ = by_params homes (suc k) xs (with_param homes k (c.param p ty (c.named name) m) Γ) ∙ by_variable _ _ Γ
+by_params homes k (c.param p ty (c.named name) m ∷ xs) Γ = by_params homes (suc k) xs (with_param homes k (c.param p ty (c.named name) m) Γ)
 
 body_closes : (homes : List Home) (params : List c.Par) (k : ℕ) (all : c.Stms) (Γ : Scope) → outer (with_names_of homes k all (with_params homes 0 params (inner Γ))) ≡ Γ
 body_closes homes params k all Γ = by_statements homes k all (with_params homes 0 params (inner Γ)) ∙ by_params homes 0 params (inner Γ)

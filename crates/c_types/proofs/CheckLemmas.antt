@@ -1,17 +1,19 @@
 -- What a walk over a file tells of its verdict.
-use Rattle.std.proofs.Common.{◌≡◌, refl, ap, ap₂, sym, ◌∙◌, subst, ℕ, Bool, true, false, not, cond, List, [], ◌∷◌, ◌++◌, Option, Some, None, is_some}
+use Rattle.std.proofs.Common.{◌≡◌, refl, ap, ap₂, sym, ◌∙◌, subst, ℕ, Bool, true, false, not, List, [], ◌∷◌, ◌++◌, Option, Some, None, is_some}
 use Rattle.std.proofs.lemmas.List.{append-nil}
+use Rattle.ib_meaning.proofs.Facts.{some_same}
 use Rattle.c_ast.specs.Trees as c
 use Rattle.c_scopes.specs.Scopes as s
+use Rattle.c_scopes.specs.Scopes.{outermost}
 use Rattle.c_typed.specs.Program.{Program}
 use Rattle.c_types_functions.specs.Functions.{functions_known, lacks_main, with_body}
 use Rattle.c_types_operators.specs.declared.rule.Breach.{Breach}
-use Rattle.c_types_operators.specs.Rules.{Judged, Fine, Broken, breaches, first_from, first_breach, goes_before}
+use Rattle.c_types_operators.specs.Rules.{Judged, Fine, Broken, breaches, first_from, first_breach}
 use Rattle.c_types_operators.specs.Scopes as scopes
 use Rattle.c_types_operators.specs.Scopes.{Scope}
 use Rattle.c_types_operators.specs.Parts.{also}
 use Rattle.c_types_operators.specs.Judging.{Noted, noted, kept}
-use Rattle.c_types_operators.proofs.JudgingLemmas.{first_from-join}
+use Rattle.c_types_operators.proofs.JudgingLemmas.{first_from-join, first_from-some}
 use Rattle.c_program.specs.declared.error.CheckErr.{CheckErr}
 use Rattle.c_program.specs.declared.error.CheckErr.TheVariants.{NoMemory}
 use Rattle.c_program.specs.Limits.{Limited, within, limited, program_of, Refuses}
@@ -19,25 +21,15 @@ use Rattle.c_types_statements.specs.Keeping.{Seen, Types, Finds, is_empty}
 use Rattle.c_types_statements.specs.Statements.{At}
 use Rattle.c_types.specs.Making.{with_items}
 use Rattle.c_types.specs.Units.{Parts, judged, items, whole_breaches, file_start, past_items}
-use Rattle.c_types.specs.Typing.{verdict, verdict_of, keeps_rules, IsTyped, IsBreach, Refused}
+use Rattle.c_types.specs.Typing.{verdict, verdict_of, keeps_rules, breaks_rule, IsTyped, IsBreach, Refused}
 use Rattle.c_types.specs.Views.{Tells}
 use Rattle.c_types.proofs.HeadLemmas.{seen_with}
-use Rattle.c_types.proofs.Settled.{HasOne, Settled, settled}
 
 -- ---- whether something was noted
 
-chosen : (x y : Breach) (ys : List Breach) (b : Bool) → is_some (first_from (Some x) ys) ≡ true → is_some (first_from (Some y) ys) ≡ true →
-    is_some (first_from (cond b (Some y) (Some x)) ys) ≡ true
-chosen x y ys true one other = other
-chosen x y ys false one other = one
-
-stays : (x : Breach) (ys : List Breach) → is_some (first_from (Some x) ys) ≡ true
-stays x [] = refl
-stays x (y ∷ ys) = chosen x y ys (goes_before y x) (stays x ys) (stays y ys)
-
 empty_is : (found : List Breach) → not (is_some (first_from None found)) ≡ is_empty found
 empty_is [] = refl
-empty_is (b ∷ found) = ap not (stays b found)
+empty_is (b ∷ found) = ap (λ first. not (is_some first)) (first_from-some b found)
 
 flipped : (a b : Bool) → a ≡ not b → b ≡ not a
 flipped a true is = ap not (sym is)
@@ -68,14 +60,14 @@ noted_in before {now} found Γ k is =
 
 -- a walk from the file's start
 pub told : {s0 s1 : Seen} {bodied functions : s.Scope scopes.Function} {no_main : Bool} {answer : Option Parts} {notes : Noted} (unit : List c.Top) →
-    s0 ≡ record { scope = record { scopes = [] ∷ []; functions = functions }; at = file_start; first = None } →
+    s0 ≡ record { scope = record { scopes = outermost; functions = functions }; at = file_start; first = None } →
     functions ≡ functions_known unit → bodied ≡ with_body unit → no_main ≡ lacks_main unit →
     Types s0 s1 (with_items s0.at unit s0.scope) (past_items unit s0.at) (also (whole_breaches no_main unit) (items bodied s0.scope s0.at unit)) answer →
     notes ≡ record { texts = s1.at.texts; places = s1.at.places; first = s1.first } →
     Tells unit answer notes
 told {s0} {s1} {bodied} {functions} {no_main} {answer} {notes} unit start known bodies main h is =
     let judged_at : Seen → s.Scope scopes.Function → Bool → Judged Parts = λ s b m. also (whole_breaches m unit) (items b s.scope s.at unit) in
-    let begun : s.Scope scopes.Function → Seen = λ fs. record { scope = record { scopes = [] ∷ []; functions = fs }; at = file_start; first = None } in
+    let begun : s.Scope scopes.Function → Seen = λ fs. record { scope = record { scopes = outermost; functions = fs }; at = file_start; first = None } in
     let from_start : s0 ≡ begun (functions_known unit) = start ∙ ap begun known in
     let same : judged_at s0 bodied no_main ≡ judged unit =
     ap (λ s. judged_at s bodied no_main) from_start
@@ -91,45 +83,34 @@ told {s0} {s1} {bodied} {functions} {no_main} {answer} {notes} unit start known 
 
 -- ---- the answer
 
-some-same : {A : Type 0} {a b : A} → Some a ≡ Some b → a ≡ b
-some-same e = cc
-
 kept-fine : {A : Type 0} (j : Judged A) (a : A) → Some a ≡ kept j → j ≡ Fine a
-kept-fine (Fine b) a e = ap Fine (sym (some-same e))
-kept-fine (Broken found) a e = let no : false ≡ true = cc in cc
+kept-fine (Fine b) a e = ap Fine (sym (some_same e))
+kept-fine (Broken first more) a e = let no : false ≡ true = cc in cc
 
-kept-none : {A : Type 0} (j : Judged A) → None ≡ kept j → Broken (breaches j) ≡ j
-kept-none (Fine b) e = let no : false ≡ true = cc in cc
-kept-none (Broken found) e = refl
-
-named : (found : List Breach) → HasOne found → is_some (first_breach found) ≡ true
-named [] h = absurd h
-named (x ∷ xs) h = stays x xs
-
-wants_memory : (first : Option Breach) → is_some first ≡ true → IsBreach first NoMemory
-wants_memory None e = let no : false ≡ true = e in cc
-wants_memory (Some breach) e = tt
-
-refused_memory : (at : At) (j : Judged Parts) → Settled j → Refused (verdict_of j at) NoMemory
-refused_memory at (Fine parts) h = tt
-refused_memory at (Broken found) h = wants_memory (first_breach found) (named found h)
+refused_memory : (at : At) (j : Judged Parts) → Refused (verdict_of j at) NoMemory
+refused_memory at (Fine parts) = tt
+refused_memory at (Broken first more) = tt
 
 -- whatever the source
 pub no_memory : (unit : List c.Top) → Refused (verdict unit) NoMemory
-no_memory unit = refused_memory (past_items unit file_start) (judged unit) (settled unit)
+no_memory unit = refused_memory (past_items unit file_start) (judged unit)
 
 -- without an answer there is a breach, which is noted
-has_breach : (j : Judged Parts) → Settled j → None ≡ kept j → is_some (first_breach (breaches j)) ≡ true
-has_breach (Fine parts) h e = let no : false ≡ true = cc in cc
-has_breach (Broken found) h e = named found h
+has_breach : (j : Judged Parts) → None ≡ kept j → is_some (first_breach (breaches j)) ≡ true
+has_breach (Fine parts) e = let no : false ≡ true = cc in cc
+has_breach (Broken first more) e = ap is_some (first_from-some first more)
 
 pub noted_breach : {notes : Noted} (unit : List c.Top) → Tells unit None notes → is_some notes.first ≡ true
-noted_breach unit h = ap is_some h.first ∙ has_breach (judged unit) (settled unit) h.means
+noted_breach unit h = ap is_some h.first ∙ has_breach (judged unit) h.means
 
-pub refused_broken : {notes : Noted} (error : CheckErr) (unit : List c.Top) → Tells unit None notes → IsBreach notes.first error → Refused (verdict unit) error
-refused_broken {notes} error unit h is =
-    subst (λ j. Refused (verdict_of j (past_items unit file_start)) error) (kept-none (judged unit) h.means)
-    (subst (λ first. IsBreach first error) h.first is)
+-- and it is the one that is answered
+breaks_noted : (at : At) (j : Judged Parts) (breach : Breach) → None ≡ kept j → Some breach ≡ first_breach (breaches j) → breaks_rule breach ≡ verdict_of j at
+breaks_noted at (Fine parts) breach e is = let no : false ≡ true = cc in cc
+breaks_noted at (Broken first more) breach e is = ap breaks_rule (some_same (is ∙ first_from-some first more))
+
+pub refused_broken : {notes : Noted} {breach : Breach} (error : CheckErr) (unit : List c.Top) → Tells unit None notes → notes.first ≡ Some breach → IsBreach breach error → Refused (verdict unit) error
+refused_broken {notes} {breach} error unit h first is =
+    subst (λ said. Refused said error) (breaks_noted (past_items unit file_start) (judged unit) breach h.means (sym first ∙ h.first)) is
 
 -- with one, by its limits
 abbrev said_of : Parts → Noted → Limited

@@ -1,18 +1,20 @@
 -- The breach that is answered is the first: it is one of those that are found, and none of them goes before it.
-use Rattle.std.proofs.Common.{◌≡◌, inl, inr, refl, ap, sym, ◌∙◌, subst, ℕ, nat_lt, ◌==◌, ◌&&◌, ◌||◌, Bool, true, false, cond, List, [], ◌∷◌, Option, Some, None, arith}
+use Rattle.std.proofs.Common.{◌≡◌, inl, inr, refl, sym, ◌∙◌, subst, ℕ, nat_lt, ◌==◌, ◌&&◌, ◌||◌, Bool, true, false, cond, List, [], ◌∷◌, Some, None, arith}
 use Rattle.std.proofs.lemmas.Bool.Decides.{nat_tests}
+use Rattle.ib_meaning.proofs.Facts.{some_same}
 use Rattle.ib_meaning.specs.declared.place.Place.{Place}
 use Rattle.c_ast.specs.Trees as c
 use Rattle.c_typed.specs.Rules.{number_of}
 use Rattle.c_typed.specs.declared.rule.Rule.{Rule as BrokenRule}
 use Rattle.c_types_operators.specs.declared.rule.Breach.{Breach}
-use Rattle.c_types_operators.specs.Rules.{goes_before, first_from, first_breach, breaches}
+use Rattle.c_types_operators.specs.Rules.{goes_before, earlier, first_of, first_breach, breaches}
 use Rattle.c_types_operators.specs.Judging.{Noted}
+use Rattle.c_types_operators.proofs.JudgingLemmas.{first_from-some}
 use Rattle.c_program.specs.declared.error.CheckErr.{CheckErr}
 use Rattle.c_program.specs.declared.error.CheckErr.TheVariants.{Rule, Globals, Frame, NoMemory}
 use Rattle.c_program.specs.Limits.{Limited, Refuses}
-use Rattle.c_types.specs.Units.{Parts, judged}
-use Rattle.c_types.specs.Typing.{IsBreach, IsAmong, NoneBefore, IsFirst, NamesFirst}
+use Rattle.c_types.specs.Units.{judged}
+use Rattle.c_types.specs.Typing.{IsBreach, IsAmong, IsFirst, NamesFirst}
 use Rattle.c_types.specs.Views.{Tells}
 
 -- ---- an order of three numbers, the first of which decides first
@@ -55,37 +57,31 @@ kept x y b ys is h = record {
   none_before = (h.none_before.0, (not_through y x b is h.none_before.0, h.none_before.1));
 }
 
-some-same : {A : Type 0} {a b : A} → Some a ≡ Some b → a ≡ b
-some-same e = cc
+-- What goes before decides which of the two stays.
+behind_test : (x y : Breach) (ys : List Breach) (t : Bool) → goes_before y x ≡ t → IsFirst (cond t y x ∷ ys) (first_of (cond t y x) ys) → IsFirst (x ∷ (y ∷ ys)) (first_of (cond t y x) ys)
+behind_test x y ys true is h = overtaken x y (first_of y ys) ys is h
+behind_test x y ys false is h = kept x y (first_of x ys) ys is h
 
--- what goes before decides which of the two stays, and so which of what is known of them is used
-behind_test : (x y b : Breach) (ys : List Breach) (t : Bool) → goes_before y x ≡ t → first_from (cond t (Some y) (Some x)) ys ≡ Some b → (first_from (Some y) ys ≡ Some b → IsFirst (y ∷ ys) b) → (first_from (Some x) ys ≡ Some b → IsFirst (x ∷ ys) b) → IsFirst (x ∷ (y ∷ ys)) b
-behind_test x y b ys true is e if_y if_x = overtaken x y b ys is (if_y e)
-behind_test x y b ys false is e if_y if_x = kept x y b ys is (if_x e)
-
-first_among : (x b : Breach) (ys : List Breach) → first_from (Some x) ys ≡ Some b → IsFirst (x ∷ ys) b
-first_among x b [] e =
-    let is : x ≡ b = some-same e in
-    subst (λ (y : Breach). IsFirst (x ∷ []) y) is (record { among = inl refl; none_before = (never_itself x, tt) })
-first_among x b (y ∷ ys) e = behind_test x y b ys (goes_before y x) refl e (first_among y b ys) (first_among x b ys)
-
-first_is_first : (found : List Breach) (b : Breach) → first_breach found ≡ Some b → IsFirst found b
-first_is_first [] b e = let no : false ≡ true = cc in cc
-first_is_first (x ∷ xs) b e = first_among x b xs e
+first_is_first : (x : Breach) (ys : List Breach) → IsFirst (x ∷ ys) (first_of x ys)
+first_is_first x [] = record { among = inl refl; none_before = (never_itself x, tt) }
+first_is_first x (y ∷ ys) = behind_test x y ys (goes_before y x) refl (first_is_first (earlier x y) ys)
 
 -- ---- answers
 
-named_first : (found : List Breach) (first : Option Breach) (error : CheckErr) → first_breach found ≡ first → IsBreach first error → NamesFirst found error
-named_first found None (Rule rule place) e is = absurd is
-named_first found (Some b) (Rule rule place) e is =
+named_first : (found : List Breach) (breach : Breach) (error : CheckErr) → IsFirst found breach → IsBreach breach error → NamesFirst found error
+named_first found breach (Rule rule place) first is =
     subst (λ (p : Place). IsFirst found (record { rule = rule; place = p })) (sym is.1)
-    (subst (λ (r : BrokenRule). IsFirst found (record { rule = r; place = b.place })) (sym is.0) (first_is_first found b e))
-named_first found first (Globals bytes) e is = tt
-named_first found first (Frame bytes) e is = tt
-named_first found first NoMemory e is = tt
+    (subst (λ (r : BrokenRule). IsFirst found (record { rule = r; place = breach.place })) (sym is.0) first)
+named_first found breach (Globals bytes) first is = tt
+named_first found breach (Frame bytes) first is = tt
+named_first found breach NoMemory first is = tt
 
-pub names_noted : {notes : Noted} (error : CheckErr) (unit : List c.Top) → Tells unit None notes → IsBreach notes.first error → NamesFirst (breaches (judged unit)) error
-names_noted {notes} error unit h is = named_first (breaches (judged unit)) notes.first error (sym h.first) is
+noted_first : (found : List Breach) (breach : Breach) → Some breach ≡ first_breach found → IsFirst found breach
+noted_first [] breach is = let no : false ≡ true = cc in cc
+noted_first (x ∷ xs) breach is = subst (IsFirst (x ∷ xs)) (sym (some_same (is ∙ first_from-some x xs))) (first_is_first x xs)
+
+pub names_noted : {notes : Noted} {breach : Breach} (error : CheckErr) (unit : List c.Top) → Tells unit None notes → notes.first ≡ Some breach → IsBreach breach error → NamesFirst (breaches (judged unit)) error
+names_noted {notes} {breach} error unit h first is = named_first (breaches (judged unit)) breach error (noted_first (breaches (judged unit)) breach (sym first ∙ h.first)) is
 
 pub names_none : (error : CheckErr) (found : List Breach) (said : Limited) → Refuses said error → NamesFirst found error
 names_none (Rule rule place) found said is = absurd is

@@ -2,6 +2,5 @@ pub mod GlobalLemmas
 pub mod HeadLemmas
 pub mod BodyLemmas
 pub mod ItemLemmas
-pub mod Settled
 pub mod CheckLemmas
 pub mod FirstLemmas

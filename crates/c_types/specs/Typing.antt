@@ -1,9 +1,9 @@
 -- What `check` says of a source's tree: its program, or what is wrong with it.
-use Rattle.std.specs.Prelude.{◌≡◌, ◌⊎◌, false, List, [], ◌∷◌, Option, Some, ⊤}
+use Rattle.std.specs.Prelude.{◌≡◌, ◌⊎◌, false, List, [], ◌∷◌, ⊤}
 use Rattle.c_ast.specs.Trees as c
 use Rattle.c_typed.specs.Program.{Program}
 use Rattle.c_types_operators.specs.declared.rule.Breach.{Breach}
-use Rattle.c_types_operators.specs.Rules.{first_breach, goes_before, Judged, Fine, Broken}
+use Rattle.c_types_operators.specs.Rules.{first_of, goes_before, Judged, Fine, Broken}
 use Rattle.c_program.specs.declared.error.CheckErr.{CheckErr}
 use Rattle.c_program.specs.declared.error.CheckErr.TheVariants.{Rule, Globals, Frame, NoMemory}
 use Rattle.c_program.specs.Limits.{program_of, Limited, limited, Refuses}
@@ -20,25 +20,25 @@ IsTyped unit program = (parts : Parts) × ((judged unit ≡ Fine parts) × (prog
 
 pub data Verdict : Type 0 where
   keeps_rules : Limited → Verdict
-  breaks_rule : Option Breach → Verdict
+  breaks_rule : Breach → Verdict
 
 abbrev pub verdict_of : Judged Parts → At → Verdict
-verdict_of (Broken found) behind = breaks_rule (first_breach found)
+verdict_of (Broken first more) behind = breaks_rule (first_of first more)
 verdict_of (Fine parts) behind = keeps_rules (limited parts.functions parts.globals behind.texts behind.places)
 
 abbrev pub verdict : List c.Top → Verdict
 verdict unit = verdict_of (judged unit) (past_items unit file_start)
 
--- There is a breach, and the answer's rule and place are its own, or memory was wanting.
-abbrev pub IsBreach : Option Breach → CheckErr → Type 0
-IsBreach (Some breach) (Rule rule place) = (rule ≡ breach.rule) × (place ≡ breach.place)
-IsBreach (Some breach) NoMemory = ⊤
-IsBreach found error = ⊥
+-- The answer's rule and place are the breach's own, or memory was wanting.
+abbrev pub IsBreach : Breach → CheckErr → Type 0
+IsBreach breach (Rule rule place) = (rule ≡ breach.rule) × (place ≡ breach.place)
+IsBreach breach NoMemory = ⊤
+IsBreach breach error = ⊥
 
 -- why a source has no program
 abbrev pub Refused : Verdict → CheckErr → Type 0
 Refused (keeps_rules said) error = Refuses said error
-Refused (breaks_rule found) error = IsBreach found error
+Refused (breaks_rule breach) error = IsBreach breach error
 
 -- ---- the first breach
 

@@ -6,6 +6,7 @@ use Rattle.c_typed.specs.declared.program.Home.{Home}
 use Rattle.c_typed.specs.declared.expr.Storage.TheVariants.{Global}
 use Rattle.c_typed.specs.Tree as t
 use Rattle.c_scopes.specs.Scopes as s
+use Rattle.c_scopes.specs.Scopes.{outermost}
 use Rattle.c_layout.specs.declared.shape.Shape.{Shape}
 use Rattle.c_layout.specs.declared.shape.Shape.TheVariants.{Scalar}
 use Rattle.c_layout.specs.declared.data.Datum.{Datum}
@@ -153,4 +154,4 @@ whole_breaches no_main unit = broken_if no_main NoMain (record { line = 1; col =
 abbrev pub judged : List c.Top → Judged Parts
 judged unit =
     also (whole_breaches (lacks_main unit) unit)
-    (items (with_body unit) (record { scopes = [] ∷ []; functions = functions_known unit }) file_start unit)
+    (items (with_body unit) (record { scopes = outermost; functions = functions_known unit }) file_start unit)

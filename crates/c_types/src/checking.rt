@@ -84,7 +84,7 @@ fn judge<'a>(
 }
 
 fn refusal(breach: Breach) -> CheckErr
-    ensures { IsBreach (Some breach) result }
+    ensures { IsBreach breach result }
 {
     CheckErr::Rule {
         rule: breach.rule,
@@ -134,7 +134,6 @@ fn check_with<'a>(
     ensures first { IfErr result (NamesFirst (breaches (judged (unit_of unit.now)))) }
 {
     let mut walk = Walk::new(alloc, Scope::new(alloc, functions), Notes::new(alloc));
-    walk.enter()?;
     let made = judge(&mut walk, bodied, no_main, unit)?;
     settle(alloc, unit, made, walk.into_notes())
 }

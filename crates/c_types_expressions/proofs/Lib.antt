@@ -1,4 +1,3 @@
-mod ArgumentLemmas
+pub mod ArgumentLemmas
 mod ListNodes
 mod PlainEffects
-mod Weights

@@ -23,7 +23,7 @@ use Rattle.c_types_expressions.specs.Expressions.{literals_of, arguments, call_i
 use Rattle.c_layout.specs.Layout.{Texts}
 use Rattle.c_types_operators.specs.Judging.{Noted, Judges, judges, CarriesBoth}
 use Rattle.c_types_operators.specs.Views.{designated_of, exprs_of}
-use Rattle.c_types_expressions.proofs.Weights.{weight, weights}
+use Rattle.c_types_homes.proofs.Weights.{weight, weights}
 
 abbrev Lighter : ℕ → List Expr → Exp → Type 0
 Lighter n list e = 4 * weights (exps (map expr_of list)) + n < 4 * weight e

@@ -4,7 +4,7 @@ use Rattle.std.specs.Prelude.{ℕ, zero, suc, ◌+◌, List, [], ◌∷◌, ◌+
 use Rattle.c_ast.specs.declared.tree.UnaryOp.{UnaryOp}
 use Rattle.c_ast.specs.declared.tree.UnaryOp.TheVariants as u
 use Rattle.c_ast.specs.Trees as c
-use Rattle.c_scopes.specs.Scopes.{Scope, found, declared}
+use Rattle.c_scopes.specs.Scopes.{Scopes, outermost, entered, found, declared}
 use Rattle.c_layout.specs.declared.shape.Shape.{Shape}
 use Rattle.c_layout.specs.declared.shape.Shape.TheVariants.{Scalar}
 use Rattle.c_types_homes.specs.Declarators.{declared_name, declared_shape, init_of, param_name, param_type}
@@ -47,9 +47,9 @@ function_variables params body = map param_shape params ++ variables_of body
 
 -- ---- addresses
 
--- the numbers of the variables that names mean, where scopes are open, the innermost first
+-- the numbers of the variables that names mean
 abbrev pub Names : Type 0
-Names = List (Scope ℕ)
+Names = Scopes ℕ
 
 abbrev pub number_in : Option ℕ → List ℕ
 number_in None = []
@@ -129,21 +129,18 @@ abbrev pub with_names : c.Stm → (k : ℕ) → Names → Names
 with_names (c.local p ds) k names = with_declarators ds k names
 with_names s k names = names
 
-abbrev pub inner : Names → Names
-inner names = [] ∷ names
-
 -- the variables whose address a statement takes, where k is the number of the next variable
 abbrev mutual
   pub taken_in : Names → (k : ℕ) → c.Stm → List ℕ
-  taken_in names k (c.block p xs) = taken_in_all (inner names) k xs
+  taken_in names k (c.block p xs) = taken_in_all (entered names) k xs
   taken_in names k (c.empty p) = []
   taken_in names k (c.expression p x) = taken names x
-  taken_in names k (c.if_then p x a) = taken names x ++ taken_in (inner names) k a
-  taken_in names k (c.if_else p x a b) = taken names x ++ (taken_in (inner names) k a ++ taken_in (inner names) (k + length (variables a)) b)
-  taken_in names k (c.while_loop p x a) = taken names x ++ taken_in (inner names) k a
-  taken_in names k (c.do_while p a x) = taken_in (inner names) k a ++ taken names x
+  taken_in names k (c.if_then p x a) = taken names x ++ taken_in (entered names) k a
+  taken_in names k (c.if_else p x a b) = taken names x ++ (taken_in (entered names) k a ++ taken_in (entered names) (k + length (variables a)) b)
+  taken_in names k (c.while_loop p x a) = taken names x ++ taken_in (entered names) k a
+  taken_in names k (c.do_while p a x) = taken_in (entered names) k a ++ taken names x
   taken_in names k (c.for_loop p start x y a) =
-      taken_head start x y k (inner names) ++ taken_in (inner (with_start start k (inner names))) (k + length (started_in start)) a
+      taken_head start x y k (entered names) ++ taken_in (entered (with_start start k (entered names))) (k + length (started_in start)) a
   taken_in names k (c.break p) = []
   taken_in names k (c.continue p) = []
   taken_in names k (c.return p x) = taken_maybe names x
@@ -169,4 +166,4 @@ with_params (x ∷ xs) k names = with_params xs (suc k) (with_param (param_name 
 
 -- The parameters and the outermost block are one scope.
 abbrev pub function_taken : List c.Par → c.Stms → List ℕ
-function_taken params body = taken_in_all (with_params params 0 (inner [])) (length params) body
+function_taken params body = taken_in_all (with_params params 0 outermost) (length params) body

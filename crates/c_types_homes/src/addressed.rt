@@ -1,6 +1,6 @@
-ghost use Rattle.std.specs.Prelude.{◌≡◌, [], ◌∷◌, ◌++◌, drop, OnOk};
-ghost use Rattle.c_scopes.specs.Scopes.{declared, found};
-ghost use Rattle.c_types_homes.specs.Addressed.{inner, number_in};
+ghost use Rattle.std.specs.Prelude.{◌≡◌, [], ◌∷◌, ◌++◌, OnOk};
+ghost use Rattle.c_scopes.specs.Scopes.{declared, entered, found, left, outermost};
+ghost use Rattle.c_types_homes.specs.Addressed.{number_in};
 ghost use Rattle.c_types_homes.specs.Walking.{Seen, Walks};
 
 use c_layout::Shape;
@@ -32,7 +32,7 @@ impl<'a> Model for Walk<'a> {
 impl<'a> Walk<'a> {
     /// A walk that begins in the outermost scope of a function.
     pub(crate) fn new(alloc: Global) -> Walk<'a>
-        ensures { result ≡ record { names = []; next = 0; shapes = []; taken = [] } }
+        ensures { result ≡ record { names = outermost; next = 0; shapes = []; taken = [] } }
     {
         Walk {
             alloc,
@@ -51,13 +51,13 @@ impl<'a> Walk<'a> {
     }
 
     pub(crate) fn enter(&mut self) -> Result<(), AllocError>
-        ensures { OnOk result (Walks self.old self.new (inner self.old.names) [] []) }
+        ensures { OnOk result (Walks self.old self.new (entered self.old.names) [] []) }
     {
         self.names.enter(self.alloc)
     }
 
     pub(crate) fn leave(&mut self)
-        ensures { Walks self.old self.new (drop 1 self.old.names) [] [] }
+        ensures { Walks self.old self.new (left self.old.names) [] [] }
     {
         self.names.leave();
     }

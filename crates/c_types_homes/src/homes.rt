@@ -5,6 +5,7 @@ ghost use Rattle.c_ast.specs.TreeViews.{param_of, stmt_of};
 ghost use Rattle.c_types_homes.specs.Addressed.{param_shape, with_param, with_params, function_variables, function_taken};
 ghost use Rattle.c_types_homes.specs.Declarators.{param_name};
 ghost use Rattle.c_types_homes.specs.Homes.{is_array, home_of, behind, homes_from, given_behind, none_given, function_homes, function_given, frame_size};
+ghost use Rattle.c_scopes.specs.Scopes.{outermost};
 ghost use Rattle.c_types_homes.specs.Walking.{Seen, Walks};
 
 use crate::addressed::Walk;
@@ -114,11 +115,10 @@ impl<'a> Walk<'a> {
     }
 
     fn function(&mut self, params: &'a [Param], body: &'a [Stmt]) -> Result<(), AllocError>
-        requires { self.old ≡ record { names = []; next = 0; shapes = []; taken = [] } }
+        requires { self.old ≡ record { names = outermost; next = 0; shapes = []; taken = [] } }
         ensures shapes { OnOk result (self.new.shapes ≡ function_variables (map param_of params.now) (stms (map stmt_of body.now))) }
         ensures taken { OnOk result (self.new.taken ≡ function_taken (map param_of params.now) (stms (map stmt_of body.now))) }
     {
-        self.enter()?;
         self.params(params)?;
         self.stmts(body)
     }

@@ -2,7 +2,8 @@ ghost use Rattle.std.specs.Prelude.{◌≡◌, ◌+◌, [], ◌∷◌, ◌++◌,
 ghost use Rattle.c_ast.specs.Trees.{stms};
 ghost use Rattle.c_ast.specs.TreeViews.{decl_of, expr_of, part_of, start_of, stmt_of};
 ghost use Rattle.c_types_homes.specs.Declarators.{declared_shape};
-ghost use Rattle.c_types_homes.specs.Addressed.{inner, declared_in, started_in, variables, variables_of, taken, taken_local, taken_locals, taken_start, taken_head, taken_in, taken_in_all, with_declarator, with_declarators, with_start, with_names, with_names_of};
+ghost use Rattle.c_types_homes.specs.Addressed.{declared_in, started_in, variables, variables_of, taken, taken_local, taken_locals, taken_start, taken_head, taken_in, taken_in_all, with_declarator, with_declarators, with_start, with_names, with_names_of};
+ghost use Rattle.c_scopes.specs.Scopes.{entered};
 ghost use Rattle.c_types_homes.specs.Walking.{Seen, Walks};
 
 use crate::addressed::Walk;
@@ -62,7 +63,7 @@ impl<'a> Walk<'a> {
         ensures { let s = start_of start.now in let inside = with_start s self.old.next self.old.names in
             OnOk result (Walks self.old self.new inside (started_in s ++ variables (stmt_of body.now))
             (taken_head s (part_of test.now) (part_of next.now) self.old.next self.old.names
-            ++ taken_in (inner inside) (self.old.next + length (started_in s)) (stmt_of body.now))) }
+            ++ taken_in (entered inside) (self.old.next + length (started_in s)) (stmt_of body.now))) }
     {
         self.head(start, test, next)?;
         self.inner(body)
@@ -76,10 +77,10 @@ impl<'a> Walk<'a> {
         next: &Part,
         body: &'a Stmt,
     ) -> Result<(), AllocError>
-        ensures { let s = start_of start.now in let within = inner self.old.names in
+        ensures { let s = start_of start.now in let within = entered self.old.names in
             OnOk result (Walks self.old self.new self.old.names (started_in s ++ variables (stmt_of body.now))
             (taken_head s (part_of test.now) (part_of next.now) self.old.next within
-            ++ taken_in (inner (with_start s self.old.next within)) (self.old.next + length (started_in s)) (stmt_of body.now))) }
+            ++ taken_in (entered (with_start s self.old.next within)) (self.old.next + length (started_in s)) (stmt_of body.now))) }
     {
         self.enter()?;
         self.for_parts(start, test, next, body)?;
@@ -90,7 +91,7 @@ impl<'a> Walk<'a> {
     /// A statement in a scope of its own, as one that belongs to another (C99, 6.8.4 and 6.8.5).
     #[cycle(statements)]
     fn inner(&mut self, stmt: &'a Stmt) -> Result<(), AllocError>
-        ensures { OnOk result (Walks self.old self.new self.old.names (variables (stmt_of stmt.now)) (taken_in (inner self.old.names) self.old.next (stmt_of stmt.now))) }
+        ensures { OnOk result (Walks self.old self.new self.old.names (variables (stmt_of stmt.now)) (taken_in (entered self.old.names) self.old.next (stmt_of stmt.now))) }
     {
         self.enter()?;
         self.stmt(stmt)?;
@@ -101,7 +102,7 @@ impl<'a> Walk<'a> {
     #[cycle(statements)]
     fn block(&mut self, list: &'a [Stmt]) -> Result<(), AllocError>
         ensures { let all = stms (map stmt_of list.now) in
-            OnOk result (Walks self.old self.new self.old.names (variables_of all) (taken_in_all (inner self.old.names) self.old.next all)) }
+            OnOk result (Walks self.old self.new self.old.names (variables_of all) (taken_in_all (entered self.old.names) self.old.next all)) }
     {
         self.enter()?;
         self.stmts(list)?;
@@ -123,7 +124,7 @@ impl<'a> Walk<'a> {
     #[cycle(statements)]
     fn tested(&mut self, test: &Expr, body: &'a Stmt) -> Result<(), AllocError>
         ensures { let a = stmt_of body.now in
-            OnOk result (Walks self.old self.new self.old.names (variables a) (taken self.old.names (expr_of test.now) ++ taken_in (inner self.old.names) self.old.next a)) }
+            OnOk result (Walks self.old self.new self.old.names (variables a) (taken self.old.names (expr_of test.now) ++ taken_in (entered self.old.names) self.old.next a)) }
     {
         self.expr(test)?;
         self.inner(body)
@@ -132,7 +133,7 @@ impl<'a> Walk<'a> {
     #[cycle(statements)]
     fn do_while(&mut self, body: &'a Stmt, test: &Expr) -> Result<(), AllocError>
         ensures { let a = stmt_of body.now in
-            OnOk result (Walks self.old self.new self.old.names (variables a) (taken_in (inner self.old.names) self.old.next a ++ taken self.old.names (expr_of test.now))) }
+            OnOk result (Walks self.old self.new self.old.names (variables a) (taken_in (entered self.old.names) self.old.next a ++ taken self.old.names (expr_of test.now))) }
     {
         self.inner(body)?;
         self.expr(test)
@@ -142,7 +143,7 @@ impl<'a> Walk<'a> {
     fn if_else(&mut self, test: &Expr, body: &'a Stmt, other: &'a Stmt) -> Result<(), AllocError>
         ensures { let a = stmt_of body.now in let b = stmt_of other.now in
             OnOk result (Walks self.old self.new self.old.names (variables a ++ variables b)
-            (taken self.old.names (expr_of test.now) ++ (taken_in (inner self.old.names) self.old.next a ++ taken_in (inner self.old.names) (self.old.next + length (variables a)) b))) }
+            (taken self.old.names (expr_of test.now) ++ (taken_in (entered self.old.names) self.old.next a ++ taken_in (entered self.old.names) (self.old.next + length (variables a)) b))) }
     {
         self.expr(test)?;
         self.inner(body)?;

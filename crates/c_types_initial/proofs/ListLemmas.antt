@@ -1,6 +1,6 @@
 -- The elements of a list are judged from the first on.
 use Rattle.std.proofs.Common.{◌≡◌, refl, ap, sym, ◌∙◌, subst, List, [], ◌∷◌, ◌++◌, ℕ, ◌+◌, ◌<◌, length, get_or, map, take, Option}
-use Rattle.std.proofs.lemmas.List.{append-nil, append_assoc, take_more, map-append}
+use Rattle.std.proofs.lemmas.List.{append-nil, append_assoc}
 use Rattle.ib_meaning.specs.declared.place.Place.{Place}
 use Rattle.c_ast.specs.declared.tree.Expr as source
 use Rattle.c_ast.specs.Trees as c
@@ -12,12 +12,10 @@ use Rattle.c_types_operators.specs.Rules.{Judged, Fine, Broken, both}
 use Rattle.c_types_operators.specs.Parts.{◌<*>◌}
 use Rattle.c_types_operators.specs.Scopes.{Scope}
 use Rattle.c_types_operators.specs.Judging.{Noted, Judges, CarriesBoth}
+use Rattle.c_types_operators.proofs.JudgingLemmas.{both-alone, both-joined}
 use Rattle.c_types_expressions.specs.Expressions.{literals, literals_of}
+use Rattle.c_types_expressions.proofs.ArgumentLemmas.{literals_behind, next_sources}
 use Rattle.c_types_initial.specs.Constants.{datum, data_of}
-
-literals-snoc : (xs : List c.Exp) (y : c.Exp) → literals_of (c.exps (xs ++ (y ∷ []))) ≡ literals_of (c.exps xs) ++ literals y
-literals-snoc [] y = append-nil (literals y)
-literals-snoc (x ∷ xs) y = ap (λ l. literals x ++ l) (literals-snoc xs y) ∙ sym (append_assoc (literals x) (literals_of (c.exps xs)) (literals y))
 
 -- with one more before the others, and behind them
 abbrev before : Datum → List Datum → Judged (List Datum)
@@ -28,22 +26,14 @@ behind xs x = Fine (xs ++ (x ∷ []))
 
 as-both : (j : Judged Datum) (k : Judged (List Datum)) → (Fine ◌∷◌ <*> j <*> k) ≡ both j k before
 as-both (Fine x) (Fine xs) = refl
-as-both (Fine x) (Broken found) = refl
-as-both (Broken found) k = refl
+as-both (Fine x) (Broken first more) = refl
+as-both (Broken first more) k = refl
 
 alone : (j : Judged Datum) → both j (Fine []) before ≡ both (Fine []) j behind
-alone (Fine x) = refl
-alone (Broken found) = ap (λ l. Broken l) (append-nil found)
+alone j = both-alone [] ◌∷◌ (λ xs x. xs ++ (x ∷ [])) (λ x. refl) j
 
-both-joined : (j : Judged Datum) (k : Judged (List Datum)) (l : Judged Datum) → both j (both k l behind) before ≡ both (both j k before) l behind
-both-joined (Fine a) (Fine b) (Fine x) = refl
-both-joined (Fine a) (Fine b) (Broken xs) = refl
-both-joined (Fine a) (Broken ys) (Fine x) = refl
-both-joined (Fine a) (Broken ys) (Broken xs) = refl
-both-joined (Broken zs) (Fine b) (Fine x) = ap (λ l. Broken l) (sym (append-nil (zs ++ [])))
-both-joined (Broken zs) (Fine b) (Broken xs) = ap (λ l. Broken (l ++ xs)) (sym (append-nil zs))
-both-joined (Broken zs) (Broken ys) (Fine x) = ap (λ l. Broken l) (sym (append_assoc zs ys []))
-both-joined (Broken zs) (Broken ys) (Broken xs) = ap (λ l. Broken l) (sym (append_assoc zs ys xs))
+joined : (j : Judged Datum) (k : Judged (List Datum)) (l : Judged Datum) → both j (both k l behind) before ≡ both (both j k before) l behind
+joined j k l = both-joined (λ xs x. xs ++ (x ∷ [])) ◌∷◌ ◌∷◌ (λ xs x. xs ++ (x ∷ [])) (λ x xs y. refl) j k l
 
 data_of-snoc : (Γ : Scope) (n : Texts) (p : Place) (ty : ValueType) (xs : List c.Exp) (y : c.Exp) →
     data_of Γ n p ty (xs ++ (y ∷ [])) ≡ both (data_of Γ n p ty xs) (datum Γ (n ++ literals_of (c.exps xs)) p ty y) behind
@@ -54,7 +44,7 @@ data_of-snoc Γ n p ty (x ∷ xs) y =
     let others : Judged (List Datum) = data_of Γ (n ++ literals x) p ty xs in
     as-both first (data_of Γ (n ++ literals x) p ty (xs ++ (y ∷ [])))
     ∙ (ap (λ l. both first l before) (data_of-snoc Γ (n ++ literals x) p ty xs y)
-    ∙ (both-joined first others (datum Γ ((n ++ literals x) ++ literals_of (c.exps xs)) p ty y)
+    ∙ (joined first others (datum Γ ((n ++ literals x) ++ literals_of (c.exps xs)) p ty y)
     ∙ (ap (λ l. both l (datum Γ ((n ++ literals x) ++ literals_of (c.exps xs)) p ty y) behind) (sym (as-both first others))
     ∙ ap (λ texts. both (Fine ◌∷◌ <*> first <*> others) (datum Γ texts p ty y) behind) (append_assoc n (literals x) (literals_of (c.exps xs))))))
 
@@ -69,18 +59,14 @@ one_datum : (Γ : Scope) (p : Place) (ty : ValueType) {before s1 now : Noted} (x
     Found Γ before p ty xs held s1 → Judges (λ x. x) s1 (literals y) (datum Γ s1.texts p ty y) x now → Another held x longer →
     Found Γ before p ty (xs ++ (y ∷ [])) longer now
 one_datum Γ p ty {before} {s1} {now} xs y {held} {longer} {x} so_far judged another =
-    subst (λ texts. Judges (λ held. held) before texts (data_of Γ before.texts p ty (xs ++ (y ∷ []))) longer now) (sym (literals-snoc xs y))
+    subst (λ texts. Judges (λ held. held) before texts (data_of Γ before.texts p ty (xs ++ (y ∷ []))) longer now) (sym (literals_behind xs y))
     (subst (λ j. Judges (λ held. held) before (literals_of (c.exps xs) ++ literals y) j longer now) (sym (data_of-snoc Γ before.texts p ty xs y))
     ((another now).carries before s1 (literals_of (c.exps xs)) (literals y) (data_of Γ before.texts p ty xs) (λ texts. datum Γ texts p ty y) so_far judged))
-
-next-sources : (list : List source.Expr) (i : ℕ) (e : source.Expr) → i < length list → e ≡ get_or list i e → map expr_of (take (i + 1) list) ≡ map expr_of (take i list) ++ (expr_of e ∷ [])
-next-sources list i e below is =
-    ap (map expr_of) (take_more list i e below ∙ ap (λ x. take i list ++ (x ∷ [])) (sym is)) ∙ map-append expr_of (take i list) (e ∷ [])
 
 pub next_datum : (Γ : Scope) (p : Place) (ty : ValueType) (list : List source.Expr) (i : ℕ) (e : source.Expr) {before s1 now : Noted} {held longer : Option (List Datum)} {x : Option Datum} →
     i < length list → e ≡ get_or list i e →
     Found Γ before p ty (map expr_of (take i list)) held s1 → Judges (λ x. x) s1 (literals (expr_of e)) (datum Γ s1.texts p ty (expr_of e)) x now → Another held x longer →
     Found Γ before p ty (map expr_of (take (i + 1) list)) longer now
 next_datum Γ p ty list i e {before} {s1} {now} {held} {longer} below is so_far judged another =
-    subst (λ xs. Found Γ before p ty xs longer now) (sym (next-sources list i e below is))
+    subst (λ xs. Found Γ before p ty xs longer now) (sym (next_sources list i e below is))
     (one_datum Γ p ty (map expr_of (take i list)) (expr_of e) so_far judged another)

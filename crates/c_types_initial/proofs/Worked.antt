@@ -15,6 +15,7 @@ use Rattle.c_layout.specs.declared.shape.Shape.{Shape}
 use Rattle.c_layout.specs.declared.shape.Shape.TheVariants.{Scalar, Array}
 use Rattle.c_layout.specs.declared.data.Datum.{Datum}
 use Rattle.c_layout.specs.declared.data.Datum.TheVariants.{Number, Text}
+use Rattle.c_scopes.specs.Scopes.{outermost}
 use Rattle.c_types_operators.specs.Rules.{Judged, Fine, breaches, first_breach}
 use Rattle.c_types_operators.specs.Parts.{breach}
 use Rattle.c_types_operators.specs.Scopes.{Scope}
@@ -37,7 +38,7 @@ abbrev chars : ValueType
 chars = v.Pointer b.Char 1
 
 abbrev nothing_known : Scope
-nothing_known = record { scopes = []; functions = [] }
+nothing_known = record { scopes = outermost; functions = [] }
 
 abbrev judged : Shape → c.Initial → Judged (List Datum)
 judged shape init = shape_data nothing_known [] name_at shape init

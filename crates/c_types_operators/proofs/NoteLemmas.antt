@@ -7,7 +7,7 @@ use Rattle.ib_meaning.specs.declared.place.Place.{Place}
 use Rattle.c_scopes.specs.Scopes as s
 use Rattle.c_types_operators.specs.declared.rule.Breach.{Breach}
 use Rattle.c_types_operators.specs.declared.scope.Function as code_function
-use Rattle.c_types_operators.specs.Rules.{earlier}
+use Rattle.c_types_operators.specs.Rules.{with_breach}
 use Rattle.c_layout.specs.Layout.{Texts}
 use Rattle.c_types_operators.specs.Judging.{Noted, noted}
 use Rattle.c_types_operators.specs.ScopeViews.{function_of, functions_of}
@@ -24,9 +24,9 @@ pub noted_text : (texts : List (Bor (List ℕ))) (places : List Place) (first : 
 unfolding noted
 noted_text texts places first bytes = ap (λ all. made all places first) (now-snoc texts bytes)
 
-pub noted_breach : (texts : Texts) (places : List Place) (first : Option Breach) (b : Breach) → made texts places (earlier first b) ≡ noted (made texts places first) [] (b ∷ [])
+pub noted_breach : (texts : Texts) (places : List Place) (first : Option Breach) (b : Breach) → made texts places (with_breach first b) ≡ noted (made texts places first) [] (b ∷ [])
 unfolding noted
-noted_breach texts places first b = ap (λ all. made all places (earlier first b)) (sym (append-nil texts))
+noted_breach texts places first b = ap (λ all. made all places (with_breach first b)) (sym (append-nil texts))
 
 pub function_meaning : (name : List ℕ) (table : s.Scope code_function.Function) → s.meaning name (functions_of table) ≡ option_map function_of (s.meaning name table)
 function_meaning name [] = refl

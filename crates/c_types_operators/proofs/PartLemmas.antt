@@ -21,7 +21,7 @@ module _ {X A Y B : Type 0} {u : X → A} {v : Y → B} {part : Option X} where
   pub carries_some : {before now : Noted} {f : Judged A → Judged B} {x : X} {y : Option Y} → part ≡ Some x → Judges v before [] (f (Fine (u x))) y now → Carries u v part before f y now
   carries_some {before} {now} {f} e h = record { carries = λ s xs j h1. carried f (subst (λ o. Judges u s xs j o before) e h1) h }
 
-  pub carries_none : {now : Noted} {f : Judged A → Judged B} → ((found : List Breach) → f (Broken found) ≡ Broken found) → part ≡ None → Carries u v part now f None now
+  pub carries_none : {now : Noted} {f : Judged A → Judged B} → ((first : Breach) (more : List Breach) → f (Broken first more) ≡ Broken first more) → part ≡ None → Carries u v part now f None now
   carries_none {now} {f} stays e = record { carries = λ s xs j h1. carried_none f stays (subst (λ o. Judges u s xs j o now) e h1) }
 
 module _ {X A Y B Z C : Type 0} {u : X → A} {v : Y → B} {w : Z → C} {one : Option X} {other : Option Y} where
@@ -31,16 +31,16 @@ module _ {X A Y B Z C : Type 0} {u : X → A} {v : Y → B} {w : Z → C} {one :
   pub carries_neither : {now : Noted} {f : A → B → Judged C} → both_some one other ≡ None → CarriesBoth u v w one other now f None now
   carries_neither {f = f} e = record { carries = λ s s1 xs ys j K h1 h2. both_none K f e h1 h2 }
 
-pub unary_stays : (p : Place) (op : UnaryOp) (a : c.Exp) (found : List Breach) → unary_of p op a (Broken found) ≡ Broken found
-unary_stays p o.Increment a found = refl
-unary_stays p o.Decrement a found = refl
-unary_stays p o.AddressOf a found = refl
-unary_stays p o.Dereference a found = refl
-unary_stays p o.Plus a found = refl
-unary_stays p o.Minus a found = refl
-unary_stays p o.BitNot a found = refl
-unary_stays p o.Not a found = refl
+pub unary_stays : (p : Place) (op : UnaryOp) (a : c.Exp) (first : Breach) (more : List Breach) → unary_of p op a (Broken first more) ≡ Broken first more
+unary_stays p o.Increment a first more = refl
+unary_stays p o.Decrement a first more = refl
+unary_stays p o.AddressOf a first more = refl
+unary_stays p o.Dereference a first more = refl
+unary_stays p o.Plus a first more = refl
+unary_stays p o.Minus a first more = refl
+unary_stays p o.BitNot a first more = refl
+unary_stays p o.Not a first more = refl
 
-pub given_stays : (wanted : List ValueType) (e : c.Exp) (found : List Breach) → given_to wanted e (Broken found) ≡ Broken found
-given_stays [] e found = refl
-given_stays (ty ∷ more) e found = refl
+pub given_stays : (wanted : List ValueType) (e : c.Exp) (first : Breach) (more : List Breach) → given_to wanted e (Broken first more) ≡ Broken first more
+given_stays [] e first more = refl
+given_stays (ty ∷ others) e first more = refl

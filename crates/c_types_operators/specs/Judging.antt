@@ -23,7 +23,7 @@ with_place p before = record before { places = before.places ++ (p ∷ []) }
 -- what a part means, if it breaks no rule
 abbrev pub kept : {A : Type 0} → Judged A → Option A
 kept (Fine a) = Some a
-kept (Broken found) = None
+kept (Broken first more) = None
 
 -- both, where both are there
 abbrev pub both_some : {A B : Type 0} → Option A → Option B → Option (A × B)

@@ -15,13 +15,14 @@ broken_if b rule place = if b then breach rule place ∷ [] else []
 infixl 10 ◌<*>◌
 abbrev pub ◌<*>◌ : {A B : Type 0} → Judged (A → B) → Judged A → Judged B
 Fine f <*> Fine a = Fine (f a)
-j <*> k = Broken (breaches j ++ breaches k)
+Fine f <*> Broken first more = Broken first more
+Broken first more <*> k = Broken first (more ++ breaches k)
 
 -- These rules are broken too.
 abbrev pub also : {A : Type 0} → List Breach → Judged A → Judged A
 also [] j = j
-also found j = Broken (found ++ breaches j)
+also (first ∷ more) j = Broken first (more ++ breaches j)
 
 -- a part that stands where none may
 abbrev pub misplaced : {A B : Type 0} → Rule → Place → Judged A → Judged B
-misplaced rule place j = Broken (breach rule place ∷ breaches j)
+misplaced rule place j = Broken (breach rule place) (breaches j)

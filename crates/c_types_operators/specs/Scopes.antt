@@ -1,10 +1,10 @@
 -- What the names mean that can be used at a place.
-use Rattle.std.specs.Prelude.{ℕ, List, [], ◌∷◌, drop, Option, Some, None}
+use Rattle.std.specs.Prelude.{ℕ, List, Option, Some, None}
 use Rattle.c_typed.specs.declared.types.ValueType.{ValueType}
 use Rattle.c_types_operators.specs.declared.scope.Variable.{Variable}
 use Rattle.c_types_operators.specs.declared.scope.Callee.{Callee}
 use Rattle.c_scopes.specs.Scopes as s
-use Rattle.c_scopes.specs.Scopes.{meaning, declared}
+use Rattle.c_scopes.specs.Scopes.{meaning, declared, entered, left}
 
 pub record Signature : Type 0 where
   pub result : ValueType
@@ -19,9 +19,9 @@ pub data Meant : Type 0 where
   variable : Variable → Meant
   function : Function → Meant
 
--- the variables of the scopes that are open, the innermost first, and the functions of the file
+-- the variables of the scopes that are open, and the functions of the file
 pub record Scope : Type 0 where
-  pub scopes : List (s.Scope Variable)
+  pub scopes : s.Scopes Variable
   pub functions : s.Scope Function
 
 abbrev pub or_function : Option Variable → Option Function → Option Meant
@@ -39,8 +39,8 @@ with_variable name v Γ = record Γ { scopes = declared name v Γ.scopes }
 
 -- a scope within another
 abbrev pub inner : Scope → Scope
-inner Γ = record Γ { scopes = [] ∷ Γ.scopes }
+inner Γ = record Γ { scopes = entered Γ.scopes }
 
--- behind its innermost scope
+-- behind its innermost scope; the outermost is always open
 abbrev pub outer : Scope → Scope
-outer Γ = record Γ { scopes = drop 1 Γ.scopes }
+outer Γ = record Γ { scopes = left Γ.scopes }

@@ -1,5 +1,5 @@
 ghost use Rattle.std.specs.Prelude.{◌≡◌, length, map, [], ◌∷◌, None, IfOk, OnOk};
-ghost use Rattle.c_types_operators.specs.Rules.{is_before, same_place, goes_before, earlier};
+ghost use Rattle.c_types_operators.specs.Rules.{is_before, same_place, goes_before, with_breach};
 ghost use Rattle.c_types_operators.specs.Judging.{Noted, noted, with_place};
 
 use crate::rule::Breach;
@@ -44,8 +44,8 @@ fn goes_before(x: Breach, y: Breach) -> bool
     is_before(x.place, y.place) || (is_same(x.place, y.place) && x.rule.number() < y.rule.number())
 }
 
-fn earlier(first: Option<Breach>, next: Breach) -> Option<Breach>
-    ensures { result ≡ earlier first next }
+fn with_breach(first: Option<Breach>, next: Breach) -> Option<Breach>
+    ensures { result ≡ with_breach first next }
 {
     match first {
         Some(breach) if !goes_before(next, breach) => first,
@@ -69,7 +69,7 @@ impl<'a> Notes<'a> {
     pub fn breaks(&mut self, rule: Rule, place: Place)
         ensures { self.new ≡ noted self.old [] (record { rule = rule; place = place } ∷ []) }
     {
-        self.first = earlier(self.first, Breach { rule, place });
+        self.first = with_breach(self.first, Breach { rule, place });
     }
 
     /// Notes a string literal, and gives its number. More literals than a `u32` counts find no

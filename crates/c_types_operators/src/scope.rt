@@ -1,8 +1,8 @@
-ghost use Rattle.std.specs.Prelude.{◌≡◌, [], not, IfOk, OnOk};
+ghost use Rattle.std.specs.Prelude.{◌≡◌, not, IfOk, OnErr, OnOk};
 ghost use Rattle.std.specs.Option.{option_map};
 ghost use Rattle.c_types_operators.specs.Scopes.{found, inner, outer, with_variable};
 ghost use Rattle.c_types_operators.specs.ScopeViews.{functions_of, meant_of};
-ghost use Rattle.c_scopes.specs.Scopes.{is_own};
+ghost use Rattle.c_scopes.specs.Scopes.{is_own, outermost};
 
 use c_layout::Shape;
 use c_scopes::{Scopes, Table};
@@ -64,9 +64,9 @@ impl<'a, 's> Model for Scope<'a, 's> {
 }
 
 impl<'a, 's> Scope<'a, 's> {
-    /// The functions of a file, where no scope is open.
+    /// The functions of a file, whose scope is the outermost.
     pub fn new(alloc: Global, functions: &'s Table<'a, Function<'s>>) -> Scope<'a, 's>
-        ensures { result ≡ record { scopes = []; functions = functions_of functions.now } }
+        ensures { result ≡ record { scopes = outermost; functions = functions_of functions.now } }
     {
         Scope {
             variables: Scopes::new(alloc),
@@ -95,7 +95,7 @@ impl<'a, 's> Scope<'a, 's> {
         self.variables.enter(alloc)
     }
 
-    /// Closes the innermost scope.
+    /// Closes the innermost scope. The outermost stays open, without its variables.
     pub fn leave(&mut self)
         ensures { self.new ≡ outer self.old }
     {
@@ -107,6 +107,7 @@ impl<'a, 's> Scope<'a, 's> {
     pub fn declare(&mut self, name: &'a [u8], variable: Variable) -> Result<bool, AllocError>
         ensures new { IfOk result (λ new. new ≡ not (is_own name.now self.old.scopes)) }
         ensures scope { OnOk result (self.new ≡ with_variable name.now variable self.old) }
+        ensures same { OnErr result (self.new ≡ self.old) }
     {
         self.variables.declare(name, variable)
     }

@@ -4,8 +4,6 @@ use Rattle.std.proofs.lemmas.List.{append-nil, append_assoc}
 use Rattle.ib_meaning.specs.declared.place.Place.{Place}
 use Rattle.c_ast.specs.Trees as c
 use Rattle.c_typed.specs.declared.program.Home.{Home}
-use Rattle.c_scopes.specs.Scopes as s
-use Rattle.c_types_operators.specs.declared.scope.Variable.{Variable}
 use Rattle.c_layout.specs.Layout.{Texts}
 use Rattle.c_layout.specs.declared.shape.Shape.{Shape}
 use Rattle.c_types_homes.specs.Addressed.{variables, variables_of, started_in, declared_in}
@@ -90,50 +88,39 @@ past_more s rest at =
 
 -- ---- names
 
-abbrev with_scope : s.Scope Variable → Scope → Scope
-with_scope scope Γ = record Γ { scopes = scope ∷ Γ.scopes }
-
 -- A part adds names to the innermost scope alone.
-abbrev Grows : (Scope → Scope) → Type 0
-Grows f = (scope : s.Scope Variable) (Γ : Scope) → (grown : s.Scope Variable) × (f (with_scope scope Γ) ≡ with_scope grown Γ)
+by_locals : (homes : List Home) (k : ℕ) (ds : List c.Decl) (Γ : Scope) → outer (with_locals homes k ds Γ) ≡ outer Γ
+by_locals homes k [] Γ = refl
+by_locals homes k (d ∷ ds) Γ = by_locals homes (suc k) ds (with_local homes k d Γ)
 
-by_locals : (homes : List Home) (k : ℕ) (ds : List c.Decl) → Grows (with_locals homes k ds)
-by_locals homes k [] scope Γ = (scope, refl)
-by_locals homes k (d ∷ ds) scope Γ = by_locals homes (suc k) ds _ Γ
+by_start : (homes : List Home) (k : ℕ) (start : c.Start) (Γ : Scope) → outer (with_start homes k start Γ) ≡ outer Γ
+by_start homes k (c.start_expr x) Γ = refl
+by_start homes k (c.start_local ds) Γ = by_locals homes k ds Γ
 
-by_start : (homes : List Home) (k : ℕ) (start : c.Start) → Grows (with_start homes k start)
-by_start homes k (c.start_expr x) scope Γ = (scope, refl)
-by_start homes k (c.start_local ds) scope Γ = by_locals homes k ds scope Γ
+by_statement : (homes : List Home) (k : ℕ) (x : c.Stm) (Γ : Scope) → outer (with_names homes k x Γ) ≡ outer Γ
+by_statement homes k (c.block p xs) Γ = refl
+by_statement homes k (c.empty p) Γ = refl
+by_statement homes k (c.expression p x) Γ = refl
+by_statement homes k (c.if_then p x a) Γ = refl
+by_statement homes k (c.if_else p x a b) Γ = refl
+by_statement homes k (c.while_loop p x a) Γ = refl
+by_statement homes k (c.do_while p a x) Γ = refl
+by_statement homes k (c.for_loop p start x y a) Γ = refl
+by_statement homes k (c.break p) Γ = refl
+by_statement homes k (c.continue p) Γ = refl
+by_statement homes k (c.return p x) Γ = refl
+by_statement homes k (c.local p ds) Γ = by_locals homes k ds Γ
 
-by_statement : (homes : List Home) (k : ℕ) (x : c.Stm) → Grows (with_names homes k x)
-by_statement homes k (c.block p xs) scope Γ = (scope, refl)
-by_statement homes k (c.empty p) scope Γ = (scope, refl)
-by_statement homes k (c.expression p x) scope Γ = (scope, refl)
-by_statement homes k (c.if_then p x a) scope Γ = (scope, refl)
-by_statement homes k (c.if_else p x a b) scope Γ = (scope, refl)
-by_statement homes k (c.while_loop p x a) scope Γ = (scope, refl)
-by_statement homes k (c.do_while p a x) scope Γ = (scope, refl)
-by_statement homes k (c.for_loop p start x y a) scope Γ = (scope, refl)
-by_statement homes k (c.break p) scope Γ = (scope, refl)
-by_statement homes k (c.continue p) scope Γ = (scope, refl)
-by_statement homes k (c.return p x) scope Γ = (scope, refl)
-by_statement homes k (c.local p ds) scope Γ = by_locals homes k ds scope Γ
+pub by_statements : (homes : List Home) (k : ℕ) (all : c.Stms) (Γ : Scope) → outer (with_names_of homes k all Γ) ≡ outer Γ
+by_statements homes k c.no_stm Γ = refl
+by_statements homes k (c.a_stm x rest) Γ = by_statements homes (k + length (variables x)) rest (with_names homes k x Γ) ∙ by_statement homes k x Γ
 
-by_statements : (homes : List Home) (k : ℕ) (all : c.Stms) → Grows (with_names_of homes k all)
-by_statements homes k c.no_stm scope Γ = (scope, refl)
-by_statements homes k (c.a_stm x rest) scope Γ =
-    let first = by_statement homes k x scope Γ in
-    let later = by_statements homes (k + length (variables x)) rest first.0 Γ in
-    (later.0, ap (with_names_of homes (k + length (variables x)) rest) first.1 ∙ later.1)
-
-closes : (f : Scope → Scope) → Grows f → (Γ : Scope) → outer (f (inner Γ)) ≡ Γ
-closes f grows Γ = ap outer (grows [] Γ).1
-
+-- So a scope is closed behind its parts.
 pub start_closes : (homes : List Home) (k : ℕ) (start : c.Start) (Γ : Scope) → outer (with_start homes k start (inner Γ)) ≡ Γ
-start_closes homes k start = closes (with_start homes k start) (by_start homes k start)
+start_closes homes k start Γ = by_start homes k start (inner Γ)
 
 pub statement_closes : (homes : List Home) (x : c.Stm) (Γ : Scope) (at : At) → outer (with_names homes at.variable x (inner Γ)) ≡ Γ
-statement_closes homes x Γ at = closes (with_names homes at.variable x) (by_statement homes at.variable x) Γ
+statement_closes homes x Γ at = by_statement homes at.variable x (inner Γ)
 
 pub statements_close : (homes : List Home) (all : c.Stms) (Γ : Scope) (at : At) → outer (with_names_of homes at.variable all (inner Γ)) ≡ Γ
-statements_close homes all Γ at = closes (with_names_of homes at.variable all) (by_statements homes at.variable all) Γ
+statements_close homes all Γ at = by_statements homes at.variable all (inner Γ)

@@ -43,14 +43,14 @@ finds_one {before} {now} {b} Γ k is = record {
 
 kept-with : {A B : Type 0} (f : Judged (A → B)) (j : Judged A) → kept (f <*> j) ≡ (kept f <?> kept j)
 kept-with (Fine f) (Fine a) = refl
-kept-with (Fine f) (Broken found) = refl
-kept-with (Broken more) (Fine a) = refl
-kept-with (Broken more) (Broken found) = refl
+kept-with (Fine f) (Broken first more) = refl
+kept-with (Broken first more) (Fine a) = refl
+kept-with (Broken first more) (Broken second others) = refl
 
 breaches-with : {A B : Type 0} (f : Judged (A → B)) (j : Judged A) → breaches (f <*> j) ≡ breaches f ++ breaches j
 breaches-with (Fine f) (Fine a) = refl
-breaches-with (Fine f) (Broken found) = refl
-breaches-with (Broken more) j = refl
+breaches-with (Fine f) (Broken first more) = refl
+breaches-with (Broken first more) j = refl
 
 -- what is made of parts that follow
 pub makes : {A : Type 0} {s : Seen} (a : A) → Types s s s.scope s.at (Fine a) (Some a)

@@ -44,11 +44,14 @@ to_int = v.Pointer Int 1
 -- int x; int *p; char c; int a[3]; void v(long);
 abbrev names : Scope
 names = record {
-  scopes =
-      (variable "x" (Scalar int) (InSlot 0)
-      ∷ variable "p" (Scalar to_int) (InSlot 1)
-      ∷ variable "c" (Scalar char) (InSlot 2)
-      ∷ variable "a" (Array int 3) (InMemory (Frame 8)) ∷ []) ∷ [];
+  scopes = record {
+    innermost =
+        variable "x" (Scalar int) (InSlot 0)
+        ∷ variable "p" (Scalar to_int) (InSlot 1)
+        ∷ variable "c" (Scalar char) (InSlot 2)
+        ∷ variable "a" (Array int 3) (InMemory (Frame 8)) ∷ [];
+    around = [];
+  };
   functions = record { name = codes "v"; meant = record { signature = record { result = v.Base Void; params = long ∷ [] }; callee = Body 4 } } ∷ [];
 }
 

@@ -1,5 +1,5 @@
 -- The definitions on small sources.
-use Rattle.std.specs.Prelude.{◌≡◌, refl, ℕ, ◌+◌, pos, Bool, true, false, List, [], ◌∷◌, codes, Some}
+use Rattle.std.specs.Prelude.{◌≡◌, refl, ℕ, ◌+◌, pos, Bool, true, false, List, [], ◌∷◌, codes}
 use Rattle.ib_mem.specs.Memory.{zeros}
 use Rattle.c_ast.specs.declared.tree.Base.TheVariants.{Int, Long}
 use Rattle.c_ast.specs.declared.tree.BinaryOp.TheVariants as b
@@ -30,7 +30,7 @@ in_main body = function 5 int "main" [] body ∷ []
 -- ---- verdicts
 
 abbrev breaks_at : ℕ → Rule → Verdict
-breaks_at col rule = breaks_rule (Some (record { rule = rule; place = at col }))
+breaks_at col rule = breaks_rule (record { rule = rule; place = at col })
 
 -- no rule is broken, and the program is within the limits
 abbrev is_kept : Verdict → Bool

@@ -7,6 +7,7 @@ use Rattle.c_typed.specs.declared.program.Home.TheVariants as h
 use Rattle.c_typed.specs.declared.expr.Storage.TheVariants.{Frame}
 use Rattle.c_typed.specs.Tree as t
 use Rattle.c_typed.specs.declared.rule.Rule.TheVariants.{UnknownName, Redeclared, OutsideALoop, ReturnValue}
+use Rattle.c_scopes.specs.Scopes.{outermost}
 use Rattle.c_types_operators.specs.Parts.{breach}
 use Rattle.c_types_operators.specs.Rules.{Judged, Fine, Broken}
 use Rattle.c_types_statements.specs.Statements.{literals_in_all, places_of, statements}
@@ -30,7 +31,7 @@ in_order_of_appearance = refl
 
 abbrev judged : List c.Stm → Judged t.Stms
 judged xs =
-    statements (v.Base Char) (h.Slot 0 ∷ h.Frame 8 ∷ h.Slot 1 ∷ []) (record { scopes = [] ∷ []; functions = [] }) (record { variable = 0; places = []; texts = [] }) false (c.stms xs)
+    statements (v.Base Char) (h.Slot 0 ∷ h.Frame 8 ∷ h.Slot 1 ∷ []) (record { scopes = outermost; functions = [] }) (record { variable = 0; places = []; texts = [] }) false (c.stms xs)
 
 abbrev zero : t.Exp
 zero = t.constant (v.Base Int) (pos 0)
@@ -56,9 +57,9 @@ loop_with_its_variable : judged (c.for_loop (at 1) (c.start_local (scalar 9 int 
 loop_with_its_variable = refl
 
 -- for(int x=0;;);x;break;
-behind_its_loop : judged (c.for_loop (at 1) (c.start_local (scalar 9 int "x" (c.value (number 11 0)) ∷ [])) c.missing c.missing (c.empty (at 15)) ∷ doing 16 (name 16 "x") ∷ c.break (at 18) ∷ []) ≡ Broken (breach UnknownName (at 16) ∷ breach OutsideALoop (at 18) ∷ [])
+behind_its_loop : judged (c.for_loop (at 1) (c.start_local (scalar 9 int "x" (c.value (number 11 0)) ∷ [])) c.missing c.missing (c.empty (at 15)) ∷ doing 16 (name 16 "x") ∷ c.break (at 18) ∷ []) ≡ Broken (breach UnknownName (at 16)) (breach OutsideALoop (at 18) ∷ [])
 behind_its_loop = refl
 
 -- int x,x=y;return;
-all_rules_in_order : judged (local 1 (scalar 5 int "x" c.no_init ∷ scalar 7 int "x" (c.value (name 9 "y")) ∷ []) ∷ c.return (at 11) c.missing ∷ []) ≡ Broken (breach Redeclared (at 7) ∷ breach UnknownName (at 9) ∷ breach ReturnValue (at 11) ∷ [])
+all_rules_in_order : judged (local 1 (scalar 5 int "x" c.no_init ∷ scalar 7 int "x" (c.value (name 9 "y")) ∷ []) ∷ c.return (at 11) c.missing ∷ []) ≡ Broken (breach Redeclared (at 7)) (breach UnknownName (at 9) ∷ breach ReturnValue (at 11) ∷ [])
 all_rules_in_order = refl

@@ -1,5 +1,5 @@
 -- A source's tokens, unit and program, and why it has none.
-use Rattle.std.proofs.Common.{◌≡◌, ◌≤◌, ℕ, List, length, arith, Some, None, refl, sym, ap, ◌∙◌, subst}
+use Rattle.std.proofs.Common.{◌≡◌, ◌≤◌, ℕ, List, length, arith, None, refl, sym, ap, ◌∙◌, subst}
 use Rattle.ib_meaning.specs.declared.place.Place.{Place}
 use Rattle.c_ast.specs.declared.token.Token.{Token}
 use Rattle.c_ast.specs.Cut.{AreTokens, whole, stopped}
@@ -60,25 +60,21 @@ module _ (content : List ℕ) (unit : List Top) (fits : length content ≤ 10485
   judged : (said : Verdict) → verdict unit ≡ said → IsJudged content said
   judged said says = record { tokens = has.0; unit = unit; has = has.1; says = says }
 
-  breaks : (breach : Breach) (rule : Rule) (place : Place) → verdict unit ≡ breaks_rule (Some breach) → rule ≡ breach.rule → place ≡ breach.place → HasFault content place (Typing rule)
+  breaks : (breach : Breach) (rule : Rule) (place : Place) → verdict unit ≡ breaks_rule breach → rule ≡ breach.rule → place ≡ breach.place → HasFault content place (Typing rule)
   breaks breach rule place says is at =
       subst (λ (p : Place). HasFault content p (Typing rule)) (sym at)
       (subst (λ (r : Rule). HasFault content breach.place (Typing r)) (sym is)
-      (judged (breaks_rule (Some breach)) says))
+      (judged (breaks_rule breach) says))
 
   by_verdict : (said : Verdict) (refusal : CheckErr) → verdict unit ≡ said → Refused said refusal → Refuses content (typing_refusal refusal)
   by_verdict (keeps_rules limited) (Broken rule place) says is = absurd is
   by_verdict (keeps_rules limited) (LargeGlobals bytes) says is = (fits, (bytes, judged (keeps_rules (large_globals bytes)) (says ∙ ap keeps_rules is)))
   by_verdict (keeps_rules limited) (LargeFrame bytes) says is = (fits, (bytes, judged (keeps_rules (large_frame bytes)) (says ∙ ap keeps_rules is)))
   by_verdict (keeps_rules limited) NoSpace says is = tt
-  by_verdict (breaks_rule None) (Broken rule place) says is = absurd is
-  by_verdict (breaks_rule None) (LargeGlobals bytes) says is = absurd is
-  by_verdict (breaks_rule None) (LargeFrame bytes) says is = absurd is
-  by_verdict (breaks_rule None) NoSpace says is = tt
-  by_verdict (breaks_rule (Some breach)) (Broken rule place) says is = breaks breach rule place says is.0 is.1
-  by_verdict (breaks_rule (Some breach)) (LargeGlobals bytes) says is = absurd is
-  by_verdict (breaks_rule (Some breach)) (LargeFrame bytes) says is = absurd is
-  by_verdict (breaks_rule (Some breach)) NoSpace says is = tt
+  by_verdict (breaks_rule breach) (Broken rule place) says is = breaks breach rule place says is.0 is.1
+  by_verdict (breaks_rule breach) (LargeGlobals bytes) says is = absurd is
+  by_verdict (breaks_rule breach) (LargeFrame bytes) says is = absurd is
+  by_verdict (breaks_rule breach) NoSpace says is = tt
 
   pub refuses_unit : (refusal : CheckErr) → Refused (verdict unit) refusal → Refuses content (typing_refusal refusal)
   refuses_unit refusal is = by_verdict (verdict unit) refusal refl is
@@ -104,7 +100,7 @@ no_fault content program has place (Lexical kind) stops =
 no_fault content program has place Syntax is =
     is.wrong.no_unit has.unit (subst (λ (ts : List Token). IsUnit ts has.unit) (same_tokens content has.tokens is.tokens has.has.has.cut is.has.cut) has.has.is_unit)
 no_fault content program has place (Typing rule) is =
-    let same : keeps_rules (within program) ≡ breaks_rule (Some (record { rule = rule; place = place })) = same_verdict content program _ has is in
+    let same : keeps_rules (within program) ≡ breaks_rule (record { rule = rule; place = place }) = same_verdict content program _ has is in
     cc
 no_fault content program has place NotInThisVersion is = is
 

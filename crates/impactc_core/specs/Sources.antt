@@ -91,7 +91,7 @@ IsPast content Frame = (length content ≤ 1048576) × ((bytes : ℕ) × IsJudge
 abbrev pub HasFault : List ℕ → Place → SourceFault → Type 0
 HasFault content place (Lexical kind) = StopsAt content kind place
 HasFault content place Syntax = HasWrongPhrase content place
-HasFault content place (Typing rule) = IsJudged content (breaks_rule (Some (record { rule = rule; place = place })))
+HasFault content place (Typing rule) = IsJudged content (breaks_rule (record { rule = rule; place = place }))
 HasFault content place NotInThisVersion = ⊥
 
 -- the file is past a limit; nothing is printed, and the input is left

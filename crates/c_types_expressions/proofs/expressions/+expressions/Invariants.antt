@@ -4,7 +4,7 @@ use Rattle.c_ast.specs.TreeViews as source
 use Rattle.c_ast.specs.Trees as c
 use Rattle.c_types_expressions.specs.Expressions.{arguments}
 use Rattle.c_types_expressions.proofs.ArgumentLemmas.{Found}
-use Rattle.c_types_expressions.proofs.Weights.{weight, weights}
+use Rattle.c_types_homes.proofs.Weights.{weight, weights}
 use Rattle.c_types_expressions.proofs.expressions.+expressions.Given as goal
 
 abbrev pub decreases-designated : goal.decreases-designated

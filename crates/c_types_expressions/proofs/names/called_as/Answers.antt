@@ -1,14 +1,11 @@
-use Rattle.std.proofs.Common.{◌≡◌, ℕ, refl, subst, true, length, arith}
-use Rattle.std.proofs.lemmas.Bool.Decides.{nat_tests}
+use Rattle.std.proofs.Common.{◌≡◌, ℕ, refl, subst, true, length}
 use Rattle.std.specs.Prelude.{◌==◌}
+use Rattle.ib_meaning.proofs.Facts.{same_number}
 use Rattle.c_types_operators.proofs.JudgingLemmas.{fine}
 use Rattle.c_types_expressions.proofs.names.called_as.Goals as goal
 
-same-number : (n : ℕ) → (n == n) ≡ true
-same-number n = grind (arith, nat_tests)
-
 equal-numbers : (m n : ℕ) → m ≡ n → (m == n) ≡ true
-equal-numbers m n e = subst (λ k. (m == k) ≡ true) e (same-number m)
+equal-numbers m n e = subst (λ k. (m == k) ≡ true) e (same_number m)
 
 pub returns-then-function-count : goal.returns-then-function-count
 returns-then-function-count c =

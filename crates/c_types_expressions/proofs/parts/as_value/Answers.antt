@@ -7,4 +7,4 @@ pub returns-in-Some : goal.returns-in-Some
 returns-in-Some c = λ now. carries_some c.in-Some.is (fine _ refl refl)
 
 pub returns-in-None : goal.returns-in-None
-returns-in-None c = λ now. carries_none (λ found. refl) c.in-None.is
+returns-in-None c = λ now. carries_none (λ first more. refl) c.in-None.is

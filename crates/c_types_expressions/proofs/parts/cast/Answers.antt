@@ -6,4 +6,4 @@ pub returns-in_ok-answer-in-Some : goal.returns-in_ok-answer-in-Some
 returns-in_ok-answer-in-Some c = carries_some c.in-Some.is c.in_ok-answer-in-Some.ensures
 
 pub returns-in-None : goal.returns-in-None
-returns-in-None c = carries_none (λ found. refl) c.in-None.is
+returns-in-None c = carries_none (λ first more. refl) c.in-None.is

@@ -6,4 +6,4 @@ pub returns-in-Some : goal.returns-in-Some
 returns-in-Some c = carries_some c.in-Some.is c.tested.ensures
 
 pub returns-in-None : goal.returns-in-None
-returns-in-None c = carries_none (λ found. refl) c.in-None.is
+returns-in-None c = carries_none (λ first more. refl) c.in-None.is

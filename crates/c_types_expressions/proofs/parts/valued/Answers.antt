@@ -8,4 +8,4 @@ pub returns-in_ok-value-in-Some : goal.returns-in_ok-value-in-Some
 returns-in_ok-value-in-Some c = λ now. carries_some c.in-Some.is (fine _ (ap (λ x. Fine x) (sym c.in_ok-value-in-Some.ensures)) refl)
 
 pub returns-in-None : goal.returns-in-None
-returns-in-None c = λ now. carries_none (λ found. refl) c.in-None.is
+returns-in-None c = λ now. carries_none (λ first more. refl) c.in-None.is

@@ -1,7 +1,8 @@
 use Rattle.std.proofs.Common.{rules, ◌+◌, ◌++◌, length, map, subst, OnOk}
 use Rattle.c_ast.specs.Trees.{stms}
 use Rattle.c_ast.specs.TreeViews.{start_of, part_of, stmt_of}
-use Rattle.c_types_homes.specs.Addressed.{inner, started_in, taken_head, taken_in, variables, taken_in_all, with_names, with_names_of, with_start}
+use Rattle.c_scopes.specs.Scopes.{entered}
+use Rattle.c_types_homes.specs.Addressed.{started_in, taken_head, taken_in, variables, taken_in_all, with_names, with_names_of, with_start}
 use Rattle.c_types_homes.proofs.Blocks.{by_start, by_statement, block_tree, by_statements, scoped}
 use Rattle.c_types_homes.specs.Walking.{Walks}
 use Rattle.c_types_homes.proofs.addressed.Walk.+statements.Goals as goal
@@ -15,7 +16,7 @@ pub for_loop-returns : goal.for_loop-returns
 for_loop-returns t c =
     let start = start_of c.args.start.now in
     scoped _ _ _ _ (with_start start) _
-    (λ k names. taken_head start (part_of c.args.test.now) (part_of c.args.next.now) k names ++ taken_in (inner (with_start start k names)) (k + length (started_in start)) (stmt_of c.args.body.now))
+    (λ k names. taken_head start (part_of c.args.test.now) (part_of c.args.next.now) k names ++ taken_in (entered (with_start start k names)) (k + length (started_in start)) (stmt_of c.args.body.now))
     (by_start start) c.in_ok-enter.ensures c.in_ok-for_parts.ensures c.leave.ensures
 
 pub inner-returns : goal.inner-returns

@@ -3,24 +3,20 @@ use Rattle.std.proofs.Common.{◌≡◌, ℕ, suc, ◌+◌, ◌<◌, ◌≤◌, 
 use Rattle.std.specs.Prelude.{◌==◌, ◌&&◌}
 use Rattle.std.specs.List.{list_all, prefix_len, find}
 use Rattle.std.specs.Option.{option_map}
-use Rattle.std.proofs.lemmas.Bool.{false≢true}
+use Rattle.ib_meaning.proofs.Facts.{both_first, both_second}
 use Rattle.c_ast.specs.Pieces.{behind_close}
 
 pub choose : {A : Type 0} (P : A → Type 0) (b : Bool) (x y : A) → (b ≡ true → P x) → (b ≡ false → P y) → P (cond b x y)
 choose P true x y f g = f refl
 choose P false x y f g = g refl
 
-pub and_true : (a b : Bool) → (a && b) ≡ true → (a ≡ true) × (b ≡ true)
-and_true true b h = (refl, h)
-and_true false b h = absurd (false≢true h)
-
 -- ---- the longest front that passes
 
 pub run_most : (p : ℕ → Bool) (bs more : List ℕ) → list_all p bs ≡ true → length bs ≤ prefix_len p (bs ++ more)
 run_most p [] more h = omega arith
 run_most p (b ∷ bs) more h =
-    let k = run_most p bs more (and_true (p b) (list_all p bs) h).1 in
-    rw ((and_true (p b) (list_all p bs) h).0) (omega (arith, k))
+    let k = run_most p bs more (both_second (p b) (list_all p bs) h) in
+    rw (both_first (p b) (list_all p bs) h) (omega (arith, k))
 
 pub run_passes : (p : ℕ → Bool) (bs : List ℕ) → list_all p (take (prefix_len p bs) bs) ≡ true
 run_passes p [] = refl

@@ -11,7 +11,8 @@ use Rattle.std.proofs.lemmas.List.Sums.{prefix_len-le-length}
 use Rattle.c_ast.specs.Bytes.{is_blank, is_digit, is_letter, is_word_byte}
 use Rattle.c_ast.specs.Pieces.{line_comment, block_comment, include_line, word, number, character, text, behind_close}
 use Rattle.c_lex.specs.First.{Sized, line_len, word_len, first_mark, sized_comment, first_slash, first_include, quoted, quoted_behind, sized_character, first_character, sized_string, first_string, first_with, first_piece}
-use Rattle.c_lex.proofs.Runs.{choose, and_true, run_passes, close_found}
+use Rattle.ib_meaning.proofs.Facts.{both_first, both_second}
+use Rattle.c_lex.proofs.Runs.{choose, run_passes, close_found}
 use Rattle.c_lex.proofs.Quotes.{Values, quoted_found}
 use Rattle.c_lex.proofs.MarkLemmas.{StandsFirst, first_mark-stands}
 
@@ -87,10 +88,9 @@ module _ (clear : Bool) where
     where
       by_test : (t : Bool) → (clear && starts_with nat_eq bs (codes "#include")) ≡ t → StandsFirst clear bs (cond t (Some (include_line, line_len bs)) None)
       by_test true e =
-          let both = and_true clear (starts_with nat_eq bs (codes "#include")) e in
-          let begins : take 8 bs ≡ codes "#include" = sym ((bytes_eq-Decides (codes "#include") (take 8 bs)).0 both.1) in
+          let begins : take 8 bs ≡ codes "#include" = sym ((bytes_eq-Decides (codes "#include") (take 8 bs)).0 (both_second clear (starts_with nat_eq bs (codes "#include")) e)) in
           let whole : codes "#include" ++ drop 8 bs ≡ bs = ap (λ xs. xs ++ drop 8 bs) (sym begins) ∙ take-append-drop 8 bs in
-          subst (λ xs. StandsFirst clear xs (Some (include_line, line_len xs))) whole (include_of (drop 8 bs) both.0)
+          subst (λ xs. StandsFirst clear xs (Some (include_line, line_len xs))) whole (include_of (drop 8 bs) (both_first clear (starts_with nat_eq bs (codes "#include")) e))
       by_test false e = tt
 
   character_stands : (bs : List ℕ) → StandsFirst clear (39 ∷ bs) (first_character (39 ∷ bs))

@@ -3,6 +3,7 @@ use Rattle.std.proofs.Common.{◌≡◌, ◌≢◌, ℕ, suc, ◌+◌, ◌<◌, 
 use Rattle.std.specs.Prelude.{Result, Option, nat_lt, ◌||◌, if◌then◌else◌}
 use Rattle.std.proofs.lemmas.Bool.Decides.{leb_tells}
 use Rattle.ib_meaning.specs.declared.place.Place.{Place}
+use Rattle.std.proofs.lemmas.Bool.{false_from_ne_true}
 use Rattle.c_ast.specs.declared.mark.Mark.{Mark}
 use Rattle.c_ast.specs.declared.mark.Mark.TheVariants as m
 use Rattle.c_ast.specs.declared.keyword.Keyword.TheVariants as k
@@ -18,7 +19,7 @@ use Rattle.c_ast.specs.Trees.{Ty, plain, pointer, Exp, unary, cast, binary, cond
 use Rattle.c_ast.specs.Grammar as g
 use Rattle.c_parse_machine.specs.Signs.{is, says, is_type}
 use Rattle.c_parse_machine.specs.Machine.{Frames, prefix, cast_to, cond, right, assigned, middle, other, first, list, parens, subscript, arg, part, tested, init_value, element, Use, State, typed, after_long, have, shut, begin_type, if_tighter, follow, go_on, step, finish, ended, run}
-use Rattle.c_parse_machine.proofs.Tokens.{is_true, not_true, not_assign, low_level}
+use Rattle.c_parse_machine.proofs.Tokens.{is_true, not_assign, low_level}
 
 -- how tightly a token binds what stands before it to what follows; 0 where it ends an expression
 abbrev other_binds : Token → ℕ
@@ -59,7 +60,7 @@ no_binary tok h = go (binary_op tok) refl
 
 -- the first token binds as some mark does
 pub binds_mark : (mark : Mark) (n : ℕ) (tok : Token) → ((tok : Token) → IsMark tok mark → binds tok ≡ n) → binds tok ≢ n → is mark tok ≡ false
-binds_mark mark n tok f h = not_true (is mark tok) (λ q. h (f tok (is_true mark tok q)))
+binds_mark mark n tok f h = false_from_ne_true (is mark tok) (λ q. h (f tok (is_true mark tok q)))
 
 pub no_comma : (tok : Token) → binds tok < 1 → is m.Comma tok ≡ false
 no_comma tok h = binds_mark m.Comma 1 tok (λ u e. rw e refl) (λ q. omega (arith, q))

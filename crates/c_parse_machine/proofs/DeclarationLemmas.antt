@@ -1,6 +1,6 @@
 -- What is a declaration takes the machine past it.
 use Rattle.std.proofs.Common.{◌≡◌, ℕ, ◌<◌, List, [], ◌∷◌, ◌++◌, None, true, false, refl, sym, ◌∙◌, ap, arith, append_assoc}
-use Rattle.std.proofs.lemmas.Bool.{false≢true}
+use Rattle.std.proofs.lemmas.Bool.{false≢true, false_from_ne_true}
 use Rattle.ib_meaning.specs.declared.place.Place.{Place}
 use Rattle.c_ast.specs.declared.mark.Mark.{Mark}
 use Rattle.c_ast.specs.declared.mark.Mark.TheVariants as m
@@ -14,7 +14,7 @@ use Rattle.c_ast.specs.Trees.{Ty, plain, Exp, Initial, value, elements, Decl, de
 use Rattle.c_ast.specs.Grammar as g
 use Rattle.c_parse_machine.specs.Signs.{is, says, is_type, name_of}
 use Rattle.c_parse_machine.specs.Machine.{Head, head, Declaring, declaring, Made, made, Target, top, global, in_block, in_for, no_function, init_value, element, a_declarator, a_parameter, Sizing, of_declarator, of_parameter, State, typed, named_at, sizes, size_open, size_given, sized, init_open, element_next, declared, params_open, params_void, param_next, params_done, operand, have, begins_assign, begin_type, with_decl, with_init, end_declaration, step, run}
-use Rattle.c_parse_machine.proofs.Tokens.{is_true, says_true, not_true}
+use Rattle.c_parse_machine.proofs.Tokens.{is_true, says_true}
 use Rattle.c_parse_machine.proofs.Complete.{binds, no_open, no_bracket, no_set, Heads, heads, each, Stops, alike, takes, on, value_type, stars, stars_head}
 use Rattle.c_parse_machine.proofs.Starts.{Starts, mark_not, assign_starts, alike_at}
 use Rattle.c_parse_machine.proofs.ExpressionLemmas.{assignment}
@@ -113,7 +113,7 @@ locals (g.declaration w r) s target h = value_type w (declarators_head r) s (a_d
 
 -- a token that begins a type is no mark and no other word
 pub type_no_mark : (mark : Mark) (tok : Token) → is_type tok ≡ true → is mark tok ≡ false
-type_no_mark mark tok h = not_true (is mark tok) (λ q.
+type_no_mark mark tok h = false_from_ne_true (is mark tok) (λ q.
     let e = is_true mark tok q in
     let no : is_type tok ≡ false = no_type mark tok e in false≢true (sym no ∙ h))
   where
@@ -122,7 +122,7 @@ type_no_mark mark tok h = not_true (is mark tok) (λ q.
     no_type _ tok e = rw e refl
 
 pub type_no_void : (tok : Token) → is_type tok ≡ true → says k.Void tok ≡ false
-type_no_void tok h = not_true (says k.Void tok) (λ q.
+type_no_void tok h = false_from_ne_true (says k.Void tok) (λ q.
     let e = says_true k.Void tok q in let no : is_type tok ≡ false = rw e refl in false≢true (sym no ∙ h))
 
 -- parameters

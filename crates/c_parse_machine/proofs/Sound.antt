@@ -3,6 +3,7 @@ use Rattle.std.proofs.Common.{◌≡◌, ℕ, zero, suc, ◌+◌, ◌-◌, ◌<�
 use Rattle.std.specs.Prelude.{Option, nat_lt}
 use Rattle.std.proofs.lemmas.Bool.{false≢true}
 use Rattle.std.proofs.lemmas.Bool.Decides.{leb_tells}
+use Rattle.ib_meaning.proofs.Facts.{some_same}
 use Rattle.ib_meaning.specs.declared.place.Place.{Place}
 use Rattle.c_ast.specs.declared.mark.Mark.TheVariants as m
 use Rattle.c_ast.specs.declared.token.Token.{Token}
@@ -142,9 +143,6 @@ declared_back (declaring target b ds) tok ts u d =
 assign_true : (v : Bool) (tok : Token) (o : AssignOp) → assign_if v tok ≡ Some o → (v ≡ true) × (assign_op tok ≡ Some o)
 assign_true true tok o e = (refl, e)
 assign_true false tok o e = absurd (none≢some e)
-
-pub some_same : {A : Type 0} {x y : A} → Some x ≡ Some y → x ≡ y
-some_same e = cc
 
 tighter_true : (o found : BinaryOp) (tok : Token) → if_tighter o (binary_op tok) ≡ Some found → (binary_op tok ≡ Some found) × (level o < level found)
 tighter_true o found tok h = go (binary_op tok) refl h

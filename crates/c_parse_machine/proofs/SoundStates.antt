@@ -2,6 +2,7 @@
 use Rattle.std.proofs.Common.{◌≡◌, ℕ, ◌+◌, List, [], ◌∷◌, ◌++◌, Some, None, Ok, Err, Bool, true, false, refl, sym, ◌∙◌, ap, subst, length, append_assoc, inl, inr, ◌&&◌}
 use Rattle.std.specs.Prelude.{Option, ℤ}
 use Rattle.std.proofs.lemmas.Bool.{false≢true}
+use Rattle.ib_meaning.proofs.Facts.{some_same}
 use Rattle.ib_meaning.specs.declared.place.Place.{Place}
 use Rattle.c_ast.specs.declared.mark.Mark.TheVariants as m
 use Rattle.c_ast.specs.declared.keyword.Keyword.{Keyword}
@@ -24,7 +25,7 @@ use Rattle.c_parse_machine.proofs.DeclarationLemmas.{with_params}
 use Rattle.c_parse_machine.proofs.StatementLemmas.{append-nil}
 use Rattle.c_parse_machine.proofs.Viable.{refuses}
 use Rattle.c_parse_machine.proofs.Derives.{led, By, Rest, Follows, NewStmt, Block, Awaits, EndDeclaration, Declared, Indexed, Past, Done, ParamEnd, Sized, Sizes, NamedAt, AfterType, Typed, NewType, Operand, ForStart, Derives, Derived}
-use Rattle.c_parse_machine.proofs.Sound.{on_test, on_choose, and_both, to_assign, to_expr, to_declarators, goes_back, declared_back, some_same, any_cap, back_follow}
+use Rattle.c_parse_machine.proofs.Sound.{on_test, on_choose, and_both, to_assign, to_expr, to_declarators, goes_back, declared_back, any_cap, back_follow}
 
 -- kinds of tokens from what is read of them
 

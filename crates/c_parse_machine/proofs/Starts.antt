@@ -1,7 +1,7 @@
 -- The tokens with which an expression may begin.
 use Rattle.std.proofs.Common.{◌≡◌, ℕ, ◌+◌, List, [], ◌∷◌, length, Some, None, Err, Bool, true, false, refl, sym, ◌∙◌, ap}
 use Rattle.std.specs.Prelude.{Result}
-use Rattle.std.proofs.lemmas.Bool.{false≢true}
+use Rattle.std.proofs.lemmas.Bool.{false≢true, false_from_ne_true}
 use Rattle.ib_meaning.specs.declared.place.Place.{Place}
 use Rattle.c_ast.specs.declared.mark.Mark.{Mark}
 use Rattle.c_ast.specs.declared.mark.Mark.TheVariants as m
@@ -16,7 +16,7 @@ use Rattle.c_ast.specs.Trees.{Exp, Top}
 use Rattle.c_ast.specs.Grammar as g
 use Rattle.c_parse_machine.specs.Signs.{is, says, is_type}
 use Rattle.c_parse_machine.specs.Machine.{Outer, State, stmt_word, stmt_kind, step, run}
-use Rattle.c_parse_machine.proofs.Tokens.{is_true, says_true, not_true, none≢some}
+use Rattle.c_parse_machine.proofs.Tokens.{is_true, says_true, none≢some}
 
 abbrev starts_mark : Mark → Bool
 starts_mark m.LeftParen = true
@@ -49,10 +49,10 @@ Starts [] = ⊥
 Starts (tok ∷ ts) = starts tok.kind ≡ true
 
 pub mark_not : (mark : Mark) (tok : Token) → starts (t.Mark mark) ≡ false → starts tok.kind ≡ true → is mark tok ≡ false
-mark_not mark tok e h = not_true (is mark tok) (λ q. false≢true (sym e ∙ sym (ap starts (is_true mark tok q)) ∙ h))
+mark_not mark tok e h = false_from_ne_true (is mark tok) (λ q. false≢true (sym e ∙ sym (ap starts (is_true mark tok q)) ∙ h))
 
 pub word_not : (word : Keyword) (tok : Token) → starts (t.Word word) ≡ false → starts tok.kind ≡ true → says word tok ≡ false
-word_not word tok e h = not_true (says word tok) (λ q. false≢true (sym e ∙ sym (ap starts (says_true word tok q)) ∙ h))
+word_not word tok e h = false_from_ne_true (says word tok) (λ q. false≢true (sym e ∙ sym (ap starts (says_true word tok q)) ∙ h))
 
 pub type_not : (tok : Token) → starts tok.kind ≡ true → is_type tok ≡ false
 type_not tok h = rw (word_not k.Char tok refl h, word_not k.Int tok refl h, word_not k.Long tok refl h) refl

@@ -2,8 +2,7 @@
 use Rattle.std.proofs.Common.{◌≡◌, ℕ, ◌+◌, List, [], ◌∷◌, ◌++◌, length, Some, None, Ok, Err, true, false, refl, sym, ◌∙◌, ap, arith, append_assoc, subst}
 use Rattle.std.specs.Prelude.{Result, ◌==◌}
 use Rattle.std.proofs.lemmas.Bool.{false≢true}
-use Rattle.std.proofs.lemmas.Bool.Decides.{eqb_tells}
-use Rattle.std.proofs.Common.{inl, inr}
+use Rattle.ib_meaning.proofs.Facts.{same_number}
 use Rattle.ib_meaning.specs.declared.place.Place.{Place}
 use Rattle.c_ast.specs.declared.mark.Mark.{Mark}
 use Rattle.c_ast.specs.declared.mark.Mark.TheVariants as m
@@ -26,9 +25,6 @@ use Rattle.c_parse_machine.proofs.DeclarationLemmas.{declarators, declarators_he
 -- two states that take the first token alike
 same_step : (s s' : State) (tok : Token) (ts : List Token) → step s tok ≡ step s' tok → run (tok ∷ ts) s ≡ run (tok ∷ ts) s'
 same_step s s' tok ts e = ap (λ o. elim o as (λ _. Result (List Top) ℕ) [ Some next ↦ run ts next | None ↦ Err (length ts + 1) ]) e
-
-same_number : (n : ℕ) → (n == n) ≡ true
-same_number n = elim (eqb_tells n n) [ inl p ↦ p.0 | inr p ↦ absurd (p.1 refl) ]
 
 is_itself : (mark : Mark) (tok : Token) → IsMark tok mark → is mark tok ≡ true
 is_itself mark tok e = ap (λ z. sign z == mark_number mark) e ∙ same_number (mark_number mark)

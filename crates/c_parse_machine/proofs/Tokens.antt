@@ -1,7 +1,7 @@
 -- What the tests of single tokens say.
-use Rattle.std.proofs.Common.{◌≡◌, ◌+◌, ◌<◌, List, [], ◌∷◌, Some, None, Bool, true, false, refl, sym, ◌∙◌, ap, arith, get_or}
+use Rattle.std.proofs.Common.{◌≡◌, ◌+◌, ◌<◌, List, [], ◌∷◌, Some, None, true, false, refl, sym, ◌∙◌, ap, arith, get_or}
 use Rattle.std.specs.Prelude.{Option}
-use Rattle.std.proofs.lemmas.Bool.{eqb-true}
+use Rattle.std.proofs.lemmas.Bool.{eqb-true, false_from_ne_true}
 use Rattle.c_ast.specs.declared.mark.Mark.{Mark}
 use Rattle.c_ast.specs.declared.mark.Mark.TheVariants as m
 use Rattle.c_ast.specs.declared.keyword.Keyword.{Keyword}
@@ -71,10 +71,6 @@ says_true word tok h = go tok.kind (eqb-true (sign tok.kind) (keyword_number wor
     go (t.Reserved n) e = absurd (omega (arith, e, small_word word))
 
 -- what an equation about one token's kind refutes
-pub not_true : (b : Bool) → (b ≡ true → ⊥) → b ≡ false
-not_true true h = absurd (h refl)
-not_true false h = refl
-
 pub none≢some : {A : Type 0} {x : A} → None ≡ Some x → ⊥
 none≢some e = cc
 
@@ -83,7 +79,7 @@ some≢none e = cc
 
 -- a token that is an operator of a sort is no mark that is none
 pub op_is_not : {A : Type 0} (f : Mark → Option A) (mark : Mark) (tok : Token) (op : A) → f mark ≡ None → mark_of f tok.kind ≡ Some op → is mark tok ≡ false
-op_is_not f mark tok op e h = not_true (is mark tok) (λ q.
+op_is_not f mark tok op e h = false_from_ne_true (is mark tok) (λ q.
     let same : mark_of f tok.kind ≡ f mark = ap (mark_of f) (is_true mark tok q) in
     none≢some (sym e ∙ sym same ∙ h))
 

@@ -2,7 +2,7 @@ use Rattle.std.proofs.Common.{rules, bytes_eq, sym, ◌∙◌, List, ℕ, Bor}
 use borrow.Author.Tests.{tests}
 use Rattle.std.proofs.lemmas.Iterator.Search.{any_from_yields_List}
 use Rattle.std.proofs.lemmas.Iterator.{YieldsList-from_slice}
-use Rattle.c_lex.proofs.Lists.{list_any-map}
+use Rattle.ib_meaning.proofs.Facts.{list_any-map}
 use Rattle.c_lex.proofs.words.is_among.Goals as goal
 
 pub returns : goal.returns

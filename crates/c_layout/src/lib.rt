@@ -5,8 +5,6 @@ mod addresses;
 mod bytes;
 mod data;
 mod shape;
-#[cfg(test)]
-mod tests;
 
 pub use addresses::{global_addresses, image_size, string_addresses};
 pub use bytes::image;

@@ -7,8 +7,6 @@ mod expressions;
 mod homes;
 mod marks;
 mod statements;
-#[cfg(test)]
-mod tests;
 
 pub use declared::{is_bad_length, param_type, shape_of, written};
 pub use homes::{FunctionHomes, Given, function_homes};

@@ -1,5 +1,5 @@
 -- The variables of small functions, which of them have their address taken, and their homes.
-use Rattle.std.specs.Prelude.{◌≡◌, refl, pos, false, [], ◌∷◌, codes}
+use Rattle.std.specs.Prelude.{◌≡◌, refl, pos, false, List, [], ◌∷◌, codes}
 use Rattle.c_ast.specs.declared.tree.Base.TheVariants.{Char, Int}
 use Rattle.c_ast.specs.declared.tree.UnaryOp.TheVariants as u
 use Rattle.c_ast.specs.declared.tree_unit.Length.TheVariants as n
@@ -9,8 +9,8 @@ use Rattle.c_typed.specs.declared.program.Home.TheVariants as h
 use Rattle.c_layout.specs.declared.shape.Shape.TheVariants.{Array}
 use Rattle.c_types_homes.specs.Addressed.{function_taken}
 use Rattle.c_types_homes.specs.Declarators.{declared_shape, param_type}
-use Rattle.c_types_homes.specs.Homes.{function_homes, frame_size}
-use Rattle.c_types_worked.proofs.Small.{at, int, char, long, to_int, name, number, text, unary, scalar, array, doing, local, param}
+use Rattle.c_types_homes.specs.Homes.{function_homes, function_given, frame_size}
+use Rattle.c_types_worked.proofs.Small.{at, int, char, long, to_int, name, number, text, unary, scalar, array, doing, local, param, unnamed}
 
 -- ---- which variables have their address taken, by their numbers
 
@@ -46,6 +46,22 @@ twelve_bytes = refl
 -- of (int a,int b): {{int x[4];}{int y[4];}&a;}, where blocks do not share bytes
 parameters_first : function_homes (param 1 int "a" ∷ param 2 int "b" ∷ []) (c.stms (c.block (at 1) (c.stms (local 2 (array 6 int "x" 4 c.no_init ∷ []) ∷ [])) ∷ c.block (at 12) (c.stms (local 13 (array 17 int "y" 4 c.no_init ∷ []) ∷ [])) ∷ doing 23 (unary 23 u.AddressOf (name 24 "a")) ∷ [])) ≡ h.Frame 0 ∷ h.Slot 0 ∷ h.Frame 4 ∷ h.Frame 20 ∷ []
 parameters_first = refl
+
+-- of (int a,int): {int x;char y[3];int p=&x;{long a;&a;}}
+abbrev two_params : List c.Par
+two_params = param 1 int "a" ∷ unnamed 2 int ∷ []
+
+abbrev four_locals : c.Stms
+four_locals = c.stms (local 3 (scalar 7 int "x" c.no_init ∷ []) ∷ local 9 (array 14 char "y" 3 c.no_init ∷ []) ∷ local 18 (scalar 22 int "p" (c.value (unary 24 u.AddressOf (name 25 "x"))) ∷ []) ∷ c.block (at 27) (c.stms (local 28 (scalar 33 long "a" c.no_init ∷ []) ∷ doing 35 (unary 35 u.AddressOf (name 36 "a")) ∷ [])) ∷ [])
+
+address_says_where : function_homes two_params four_locals ≡ h.Slot 0 ∷ h.Slot 1 ∷ h.Frame 0 ∷ h.Frame 4 ∷ h.Slot 2 ∷ h.Frame 8 ∷ []
+address_says_where = refl
+
+three_slots : function_given two_params four_locals ≡ record { slots = 3; bytes = 16 }
+three_slots = refl
+
+whole_frame : frame_size two_params four_locals ≡ 16
+whole_frame = refl
 
 -- ---- shapes
 

@@ -8,7 +8,7 @@ use Rattle.c_layout.specs.declared.shape.Shape.TheVariants.{Scalar, Array}
 use Rattle.c_layout.specs.declared.data.Datum.{Datum}
 use Rattle.c_layout.specs.declared.data.Datum.TheVariants.{Number, Text}
 use Rattle.c_layout.specs.declared.data.GlobalData.{GlobalData}
-use Rattle.c_layout.specs.Layout.{first_address, addresses, texts_behind, image, image_size}
+use Rattle.c_layout.specs.Layout.{Texts, first_address, addresses, texts_behind, image, image_size}
 
 abbrev scalar : Base → List Datum → GlobalData
 scalar base held = record { shape = Scalar (v.Base base); held = held }
@@ -49,3 +49,23 @@ others_are_zero = refl
 address_of_string : image (to_char (Text 0 ∷ []) ∷ []) (codes "hi" ∷ []) ≡ 8 ∷ 16 ∷ 0 ∷ 0 ∷ 0 ∷ 0 ∷ 0 ∷ 0 ∷ 104 ∷ 105 ∷ 0 ∷ []
 unfolding zeros
 address_of_string = refl
+
+-- char c=-1; char s[3]={'a'}; long x=258; char *p=""; where "hi" is used too
+abbrev four : List GlobalData
+four = scalar Char (Number (negsuc 0) ∷ []) ∷ array Char 3 (Number (pos 97) ∷ []) ∷ scalar Long (Number (pos 258) ∷ []) ∷ to_char (Text 1 ∷ []) ∷ []
+
+abbrev two_strings : Texts
+two_strings = codes "hi" ∷ [] ∷ []
+
+four_addresses : addresses first_address four ≡ 4096 ∷ 4097 ∷ 4104 ∷ 4112 ∷ []
+four_addresses = refl
+
+two_addresses : texts_behind four two_strings ≡ 4120 ∷ 4123 ∷ []
+two_addresses = refl
+
+all_of_them : image four two_strings ≡ 255 ∷ 97 ∷ 0 ∷ 0 ∷ 0 ∷ 0 ∷ 0 ∷ 0 ∷ 2 ∷ 1 ∷ 0 ∷ 0 ∷ 0 ∷ 0 ∷ 0 ∷ 0 ∷ 27 ∷ 16 ∷ 0 ∷ 0 ∷ 0 ∷ 0 ∷ 0 ∷ 0 ∷ 104 ∷ 105 ∷ 0 ∷ 0 ∷ []
+unfolding zeros
+all_of_them = refl
+
+how_many_bytes : image_size four two_strings ≡ 28
+how_many_bytes = refl

@@ -15,7 +15,7 @@ use Rattle.wide_core.specs.Operation.{target, To, Into}
 use Rattle.wide_core.specs.Places.{put, put_if, same_loc}
 use Rattle.wide_core.specs.Cycle.{Timed, behind_word, by_cycles, Times, touched, any_late, times_after}
 use Rattle.wide_core.specs.Word.{Outcome, Through, Gone, Left, Stopped}
-use Rattle.wide_core.specs.Meaning.{Running, Waiting, Clock, resumed, clock_after, word_outcome, word_step, word_start, word_meaning, first_ops, late, times, wide_step, wide_start, wide_meaning}
+use Rattle.wide_core.specs.Meaning.{Running, Waiting, Clock, done_by, resumed, clock_after, Wide, outcome_by, ready_by, times_by, words_by, cycle_by, word_step, word_start, word_meaning, first_ops, late, wide_step, wide_start, wide_meaning}
 
 -- of any machine by words: nothing is late once all times are at most now, and all stay at most now + 16
 module _ {W T : Type 0} (step : Machine W) (late : W → T → ℕ → Bool) (times : W → T → ℕ → List ℕ → T) (IsBy : ℕ → T → Type 0)
@@ -140,24 +140,34 @@ in_time : (r : Running) (clock : Clock) (b now : ℕ) → AllBy b clock → b �
 in_time r clock b now h le = ops_in_time clock.top b now (first_ops r.call.rest) h.top le
 
 module _ (latency : OpClass → ℕ) (few : (class : OpClass) → latency class ≤ 16) (code : RawCode) where
-  soon : (r : Running) (clock : Clock) (b now : ℕ) (left : List ℕ) → AllBy b clock → b ≤ now + 16 → AllBy (now + 16) (times latency code r clock now left)
-  soon r clock b now left h le =
-      clock_by (word_outcome code r (first_ops r.call.rest) left) (times_after latency now (first_ops r.call.rest) clock.top) clock.waiting r.waiting (suc now) (now + 16) (omega arith)
-      (record {
-        top = ops_soon latency few (first_ops r.call.rest) now clock.top (λ loc. let g = h.top loc in omega arith);
-        waiting = λ i loc. let g = h.waiting i loc in omega arith;
-      })
+  module _ (one : Bool) where
+    soon : (r : Running) (clock : Clock) (b now : ℕ) (left : List ℕ) → AllBy b clock → b ≤ now + 16 → AllBy (now + 16) (times_by one latency code r clock now left)
+    soon r clock b now left h le =
+        clock_by (outcome_by one code r (first_ops r.call.rest) left) (ready_by one latency code r clock.top now) clock.waiting r.waiting (suc now) (now + 16) (omega arith)
+        (record {
+          top = ops_soon latency few (done_by one code r (first_ops r.call.rest)) now clock.top (λ loc. let g = h.top loc in omega arith);
+          waiting = λ i loc. let g = h.waiting i loc in omega arith;
+        })
 
-  -- the machine by cycles does what the machine by words does
+    abbrev Beside : Running → Wide → Type 0
+    Beside = Alongside (words_by one code) late (times_by one latency code) AllBy in_time soon
+
+    all_ready : Beside (word_start code) (wide_start latency code)
+    unfolding wide_start
+    all_ready = With (word_start code) (record { top = λ loc. 0; waiting = [] }) 0 (record { top = λ loc. omega arith; waiting = λ i loc. omega arith })
+
+    -- the machine by cycles does what the machine by words does
+    pub by_agree : Agrees (means (words_by one code) (word_start code)) (means (cycle_by one latency code) (wide_start latency code))
+    by_agree = timed_agrees (words_by one code) late (times_by one latency code) AllBy in_time soon (word_start code) (wide_start latency code) all_ready
+
+    -- with at most 16 cycles for each word
+    pub by_within : Within (λ n. 16 * n) (means (words_by one code) (word_start code)) (means (cycle_by one latency code) (wide_start latency code))
+    by_within = timed_within (words_by one code) late (times_by one latency code) AllBy in_time soon (word_start code) (wide_start latency code) all_ready
+
   pub cycles_agree : Agrees (word_meaning code) (wide_meaning latency code)
-  unfolding word_meaning wide_meaning wide_step wide_start
-  cycles_agree =
-      timed_agrees (word_step code) late (times latency code) AllBy in_time soon (word_start code) (wide_start latency code)
-      (With (word_start code) (record { top = λ loc. 0; waiting = [] }) 0 (record { top = λ loc. omega arith; waiting = λ i loc. omega arith }))
+  unfolding word_meaning word_step wide_meaning wide_step
+  cycles_agree = by_agree true
 
-  -- with at most 16 cycles for each word
   pub cycles_within : Within (λ n. 16 * n) (word_meaning code) (wide_meaning latency code)
-  unfolding word_meaning wide_meaning wide_step wide_start
-  cycles_within =
-      timed_within (word_step code) late (times latency code) AllBy in_time soon (word_start code) (wide_start latency code)
-      (With (word_start code) (record { top = λ loc. 0; waiting = [] }) 0 (record { top = λ loc. omega arith; waiting = λ i loc. omega arith }))
+  unfolding word_meaning word_step wide_meaning wide_step
+  cycles_within = by_within true

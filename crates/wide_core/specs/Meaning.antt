@@ -14,10 +14,10 @@ use Rattle.wide_core.specs.declared.code.Word.{Word}
 use Rattle.wide_core.specs.declared.code.WideFunc.{WideFunc}
 use Rattle.wide_core.specs.declared.code.RawCode.{RawCode}
 use Rattle.wide_core.specs.Cycle.{Timed, Times, by_cycles, any_late, times_after}
-use Rattle.wide_core.specs.Operation.{To, Into}
+use Rattle.wide_core.specs.Operation.{Around, To, Into}
 use Rattle.wide_core.specs.Parts.{home_of, words_of, frame_of, params_of, number_of_main, first_memory, first_base, overflows}
 use Rattle.wide_core.specs.Places.{put, put_if}
-use Rattle.wide_core.specs.Word.{Flow, Outcome, Through, Gone, Left, Stopped, after_word}
+use Rattle.wide_core.specs.Word.{Flow, Outcome, Through, Gone, Left, Stopped, after_word, done, effect, flow_of}
 
 -- ---- word by word
 
@@ -104,17 +104,35 @@ next_step code r rest (Gone (Into func next result args) s) =
 next_step code r rest (Left z s) = leave r.waiting z s
 next_step code r rest (Stopped number kind s) = Stops (Faulted (home_of code number) kind) s.left s.out
 
--- a word of the call at hand, where control acts behind all other operations
-abbrev pub word_outcome : RawCode → Running → List WideOp → List ℕ → Outcome
-word_outcome code r ops left = after_word true ops r.call.base (has_room code r) r.call.places r.memory left
+-- the machine where it is over: the call at hand stays at its word, with what the word wrote
+abbrev pub at_end : Running → Flow → Running
+at_end r s = record { call = moved r.call r.call.rest s.places; waiting = r.waiting; memory = s.memory }
 
-abbrev pub step_from : RawCode → List Word → Running → List ℕ → Step Running
-step_from code [] r left = Goes r left []
-step_from code (word ∷ rest) r left = next_step code r rest (word_outcome code r word.ops left)
+-- what the operations of a word find around them
+abbrev pub around_of : RawCode → Running → Around
+around_of code r = record { base = r.call.base; memory = r.memory; room = has_room code r }
 
--- one word; behind the last one the machine stays where it is
+-- where a word has one place for control, which acts behind all other operations, or where it may leave early
+module _ (one : Bool) where
+  -- a word of the call at hand
+  abbrev pub outcome_by : RawCode → Running → List WideOp → List ℕ → Outcome
+  outcome_by code r ops left = after_word one ops r.call.base (has_room code r) r.call.places r.memory left
+
+  -- its operations that are done
+  abbrev pub done_by : RawCode → Running → List WideOp → List WideOp
+  done_by code r ops = done one (effect (around_of code r) r.call.places) ops
+
+  abbrev pub step_by : RawCode → List Word → Running → List ℕ → Step Running
+  step_by code [] r left = Goes r left []
+  step_by code (word ∷ rest) r left = next_step code r rest (outcome_by code r word.ops left)
+
+  -- one word; behind the last one the machine stays where it is
+  abbrev pub words_by : RawCode → Machine Running
+  words_by code r left = step_by code r.call.rest r left
+
+-- of code whose words have one place for control
 unfoldable pub word_step : RawCode → Machine Running
-word_step code r left = step_from code r.call.rest r left
+word_step code = words_by true code
 
 -- the call of `main` as it begins
 unfoldable pub word_start : RawCode → Running
@@ -149,17 +167,38 @@ clock_after (Gone (Into func next result args) s) top more waiting soon = record
 clock_after (Left z s) top more waiting soon = resumed top more waiting soon
 clock_after outcome top more waiting soon = record { top = top; waiting = more }
 
+-- a state of the machine by cycles
+abbrev pub Wide : Type 0
+Wide = Timed Running Clock
+
+module _ (one : Bool) (latency : OpClass → ℕ) (code : RawCode) where
+  -- of the call at hand, behind its word: set by the operations that are done
+  abbrev pub ready_by : Running → Times → ℕ → Times
+  ready_by r top now = times_after latency now (done_by one code r (first_ops r.call.rest)) top
+
+  abbrev pub times_by : Running → Clock → ℕ → List ℕ → Clock
+  times_by r clock now left =
+      clock_after (outcome_by one code r (first_ops r.call.rest) left) (ready_by r clock.top now) clock.waiting r.waiting (suc now)
+
+  abbrev pub cycle_by : Machine Wide
+  cycle_by = by_cycles (words_by one code) late times_by
+
+  -- behind a cycle with which it is over
+  abbrev pub end_by : Wide → (left : List ℕ) → Wide
+  end_by c left = record {
+    word = at_end c.word (flow_of (outcome_by one code c.word (first_ops c.word.call.rest) left));
+    ready = record { top = ready_by c.word c.ready.top c.now; waiting = c.ready.waiting };
+    now = suc c.now;
+  }
+
 module _ (latency : OpClass → ℕ) (code : RawCode) where
-  abbrev pub times : Running → Clock → ℕ → List ℕ → Clock
-  times r clock now left =
-      clock_after (word_outcome code r (first_ops r.call.rest) left) (times_after latency now (first_ops r.call.rest) clock.top) clock.waiting r.waiting (suc now)
-
-  abbrev pub Wide : Type 0
-  Wide = Timed Running Clock
-
   -- one cycle
   unfoldable pub wide_step : Machine Wide
-  wide_step = by_cycles (word_step code) late times
+  wide_step = cycle_by true latency code
+
+  -- where the machine stands for good behind its last cycle, which began here
+  unfoldable pub wide_end : Wide → (left : List ℕ) → Wide
+  wide_end = end_by true latency code
 
   -- `main` as it begins, everything ready, in cycle 0
   unfoldable pub wide_start : Wide

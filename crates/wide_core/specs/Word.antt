@@ -28,6 +28,13 @@ pub data Outcome : Type 0 where
   Left : (z : ℤ) (s : Flow) → Outcome
   Stopped : (number : ℕ) (kind : FaultKind) (s : Flow) → Outcome
 
+-- what stands where the word comes out so
+abbrev pub flow_of : Outcome → Flow
+flow_of (Through s) = s
+flow_of (Gone exit s) = s
+flow_of (Left z s) = s
+flow_of (Stopped number kind s) = s
+
 -- the operation's effect, read from the state before the word
 abbrev pub effect : Around → (Loc → Tagged) → WideOp → Effect
 effect around places op = effect_on op around (map places (sources op.act))
@@ -71,3 +78,17 @@ acts one (Print text ∷ es) next s = acts one es next (apply (Print text) s)
 unfoldable pub after_word : (one : Bool) → List WideOp → (base : ℕ) (room : ℕ → Bool) (places : Loc → Tagged) (memory left : List ℕ) → Outcome
 after_word one ops base room places memory left =
     acts one (effects (record { base = base; memory = memory; room = room }) places ops) (λ s. Through s) (record { places = places; memory = memory; left = left; out = [] })
+
+-- ---- which operations of a word are done
+
+-- an operation with this effect and, where the word goes on behind it, these
+abbrev pub done_with : (one : Bool) → Effect → WideOp → (more : List WideOp) → List WideOp
+done_with one (Stop number kind) op more = []
+done_with one (Go exit) op more = op ∷ (if one then more else [])
+done_with one (Leave z) op more = op ∷ (if one then more else [])
+done_with one e op more = op ∷ more
+
+-- those before the first report and, where a word may leave early, none behind a control operation that leaves
+abbrev pub done : (one : Bool) → (WideOp → Effect) → List WideOp → List WideOp
+done one effect_of [] = []
+done one effect_of (op ∷ ops) = done_with one (effect_of op) op (done one effect_of ops)

@@ -1,5 +1,6 @@
 -- What a host printed and gave, effect by effect.
-use Rattle.std.proofs.Common.{true, ◌≡◌, ℕ, zero, suc, ℤ, ◌+◌, ◌<◌, List, [], ◌∷◌, ◌++◌, length, get_or, take, drop, set, add-one, Option, Some, None, refl, sym, ap, ◌∙◌, subst, append_assoc, arith}
+use Rattle.std.proofs.Common.{Bool, true, false, ◌≡◌, ℕ, zero, suc, ℤ, ◌+◌, ◌<◌, ◌≤◌, List, [], ◌∷◌, ◌++◌, length, get_or, take, drop, set, add-one, Option, Some, None, refl, sym, ap, ◌∙◌, subst, append_assoc, arith}
+use Rattle.std.specs.Prelude.{if◌then◌else◌}
 use Rattle.std.specs.Fmt.{signed_decimal}
 use Rattle.std.proofs.lemmas.List.{append-nil, drop-set-lt, take_more, take_more_set}
 use Rattle.std.proofs.Math.Seq.{drop-cons}
@@ -11,7 +12,7 @@ use Rattle.wide_core.specs.declared.code.Loc.TheVariants.{Reg}
 use Rattle.wide_core.specs.declared.code.Tagged.TheVariants.{Clear}
 use Rattle.wide_sim.specs.declared.planned.Planned.{Planned}
 use Rattle.wide_sim.specs.declared.planned.Planned.TheVariants.{Idle, Write, Save, Take, PutByte, PutNumber, Jump, Call, Return, Report}
-use Rattle.wide_sim.specs.Effects.{text_of, text, hear, left_behind, heard, left_after, Asked, AskedOne, Hears, HearsOne, PrintsSome, number_of_byte}
+use Rattle.wide_sim.specs.Effects.{asks, asking, text_of, text, hear, left_behind, heard, left_after, Asked, AskedOne, Hears, HearsOne, PrintsSome, number_of_byte}
 use Rattle.wide_core.proofs.Both.{both, both_first}
 use Rattle.std.specs.List.{list_all}
 use Rattle.wide_sim.specs.Fits.{planned_fits}
@@ -81,14 +82,52 @@ taken_asked to byte before after t = record {
 pub printed_some : (before after : World) (whole bytes : List ℕ) → bytes ≡ whole → PrintsPart before after bytes → OverHost (PrintsSome whole) before after
 printed_some before after whole bytes is p =
     over_weaken (λ input left out. (input ≡ left) × IsPrefix out bytes) (PrintsSome whole) before after (over_part before after bytes p)
-    (λ input left out h. subst (λ (b : List ℕ). IsPrefix out b) is h.1)
+    (λ input left out h. record { begins = subst (λ (b : List ℕ). IsPrefix out b) is h.1; kept = sym h.0 })
 
 pub some_of : (f g : Planned) (before after : World) → f ≡ g → OverHost (PrintsSome (text_of g)) before after → OverHost (PrintsSome (text_of f)) before after
 some_of f g before after is over = subst (λ (h : Planned). OverHost (PrintsSome (text_of h)) before after) (sym is) over
 
 pub nothing_printed : (text : List ℕ) (before after : World) → after ≡ before → OverHost (PrintsSome text) before after
 nothing_printed text before after is =
-    subst (λ w. OverHost (PrintsSome text) before w) (sym is) (over_none (PrintsSome text) (λ left. (text, refl)) before)
+    subst (λ w. OverHost (PrintsSome text) before w) (sym is) (over_none (PrintsSome text) (λ left. record { begins = (text, refl); kept = refl }) before)
+
+-- ---- how many ask
+
+-- where none asks, nothing is taken
+nothing_taken : (fs : List Planned) (input : List ℕ) → asking fs ≡ 0 → left_after fs input ≡ input
+nothing_taken [] input h = refl
+nothing_taken (Take to ∷ fs) input h = absurd (omega arith)
+nothing_taken (PutByte byte ∷ fs) input h = absurd (omega arith)
+nothing_taken (PutNumber z ∷ fs) input h = absurd (omega arith)
+nothing_taken (Idle ∷ fs) input h = nothing_taken fs input h
+nothing_taken (Write to value ∷ fs) input h = nothing_taken fs input h
+nothing_taken (Save width address value ∷ fs) input h = nothing_taken fs input h
+nothing_taken (Jump to ∷ fs) input h = nothing_taken fs input h
+nothing_taken (Call result func next args ∷ fs) input h = nothing_taken fs input h
+nothing_taken (Return z ∷ fs) input h = nothing_taken fs input h
+nothing_taken (Report number kind ∷ fs) input h = nothing_taken fs input h
+
+asking_more : (fs : List Planned) (f : Planned) (b : Bool) → asks f ≡ b → asking (f ∷ fs) ≡ (if b then suc (asking fs) else asking fs)
+asking_more fs f b h = ap (λ b. if b then suc (asking fs) else asking fs) h
+
+one_asks : (f : Planned) (fs : List Planned) (b : Bool) → asks f ≡ b → 1 ≤ asking fs → 1 ≤ asking (f ∷ fs)
+one_asks f fs true is some = let e = asking_more fs f true is in omega arith
+one_asks f fs false is some = let e = asking_more fs f false is in omega arith
+
+some_asks : (fs : List Planned) (i : ℕ) (d : Planned) → i < length fs → asks (get_or fs i d) ≡ true → 1 ≤ asking fs
+some_asks [] i d lt h = absurd (omega arith)
+some_asks (f ∷ fs) zero d lt h = let e = asking_more fs f true h in omega arith
+some_asks (f ∷ fs) (suc i) d lt h = one_asks f fs (asks f) refl (some_asks fs i d (omega arith) h)
+
+-- before one that asks none does, where no more than one does
+none_first : (f : Planned) (fs : List Planned) (i : ℕ) (b : Bool) → asks f ≡ b → 1 ≤ asking fs → asking (f ∷ fs) ≤ 1 → (asking fs ≤ 1 → asking (take i fs) ≡ 0) → asking (f ∷ take i fs) ≡ 0
+none_first f fs i true is some few none = let e = asking_more fs f true is in absurd (omega arith)
+none_first f fs i false is some few none = let e = asking_more fs f false is in asking_more (take i fs) f false is ∙ none (omega arith)
+
+none_before : (fs : List Planned) (i : ℕ) (d : Planned) → i < length fs → asks (get_or fs i d) ≡ true → asking fs ≤ 1 → asking (take i fs) ≡ 0
+none_before [] i d lt h few = absurd (omega arith)
+none_before (f ∷ fs) zero d lt h few = refl
+none_before (f ∷ fs) (suc i) d lt h few = none_first f fs i (asks f) refl (some_asks fs i d (omega arith) h) few (none_before fs i d (omega arith) h)
 
 -- ---- one effect further
 
@@ -157,16 +196,20 @@ module _ (plan old : List Planned) (i : ℕ) (d : Planned) (before middle : Worl
   pub rest_step : (g : Planned) → drop (i + 1) (set plan i g) ≡ drop (i + 1) old
   rest_step g = same_behind plan old i d g lt (omega arith) rest
 
-  pub some_step : (after : World) → OverHost (PrintsSome (text_of (get_or plan i d))) middle after → OverHost (PrintsSome (text old)) before after
-  some_step after some =
+  -- it breaks off at an effect that asks, and no other one does
+  pub some_step : (after : World) → asks (get_or plan i d) ≡ true → asking old ≤ 1 → OverHost (PrintsSome (text_of (get_or plan i d))) middle after → OverHost (PrintsSome (text old)) before after
+  some_step after one few some =
       over_join (Hears (take i old) (take i plan)) (PrintsSome (text_of (get_or plan i d))) (PrintsSome (text old)) before middle after asked.over some
-      (λ input left rest out more h p. (
-        p.0 ++ text (drop (suc i) old),
-        append_assoc out more (p.0 ++ text (drop (suc i) old))
-            ∙ ap (λ l. out ++ l) (sym (append_assoc more p.0 (text (drop (suc i) old))) ∙ ap (λ l. l ++ text (drop (suc i) old)) (p.1 ∙ ap text_of here))
-            ∙ ap (λ o. o ++ (text_of (get_or old i d) ++ text (drop (suc i) old))) h.prints
-            ∙ sym (text_at old i d (omega arith)),
-      ))
+      (λ input rest left out more h p. record {
+        begins = (
+          p.begins.0 ++ text (drop (suc i) old),
+          append_assoc out more (p.begins.0 ++ text (drop (suc i) old))
+              ∙ ap (λ l. out ++ l) (sym (append_assoc more p.begins.0 (text (drop (suc i) old))) ∙ ap (λ l. l ++ text (drop (suc i) old)) (p.begins.1 ∙ ap text_of here))
+              ∙ ap (λ o. o ++ (text_of (get_or old i d) ++ text (drop (suc i) old))) h.prints
+              ∙ sym (text_at old i d (omega arith)),
+        );
+        kept = p.kept ∙ sym h.rest ∙ nothing_taken (take i old) input (none_before old i d (omega arith) (ap asks (sym here) ∙ one) few);
+      })
 
 -- ---- what asks for nothing
 

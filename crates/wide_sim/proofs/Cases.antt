@@ -1,5 +1,5 @@
 -- The ways that a cycle of the simulator goes.
-use Rattle.std.proofs.Common.{◌≡◌, ℕ, suc, ◌+◌, ◌≤◌, pos, true, false, List, length, slice_get, Some, refl, sym, ap, ◌∙◌, subst, arith}
+use Rattle.std.proofs.Common.{◌≡◌, ℕ, suc, ◌+◌, ◌≤◌, pos, true, false, List, length, take, slice_get, Some, refl, sym, ap, ◌∙◌, subst, arith}
 use Rattle.std.specs.List.{list_all}
 use Rattle.ib_base.specs.World.{World}
 use Rattle.ib_run.specs.OverHost.{OverHost}
@@ -11,7 +11,8 @@ use Rattle.wide_core.specs.declared.code.Tagged.TheVariants.{Clear}
 use Rattle.wide_core.specs.declared.code.WideFunc.{WideFunc}
 use Rattle.wide_core.specs.declared.code.WideOp.{WideOp}
 use Rattle.wide_core.specs.Cycle.{any_late, times_after}
-use Rattle.wide_core.specs.Valid.{Limits, is_within, scope_of}
+use Rattle.machine_desc.specs.declared.machine.OpClass.TheVariants.{Io}
+use Rattle.wide_core.specs.Valid.{Limits, count_of, is_within, scope_of}
 use Rattle.wide_core.specs.Word.{effects}
 use Rattle.wide_core.proofs.Kept.{func_kept}
 use Rattle.wide_sim.specs.declared.frame.Frame.{Frame}
@@ -30,7 +31,8 @@ use Rattle.wide_sim.specs.Simulation.{BreaksOff, Cycles, IsSound, going_at, sim_
 use Rattle.wide_sim.specs.Site.{Site, around, room_at, site_of}
 use Rattle.wide_sim.specs.Store.{held}
 use Rattle.wide_sim.proofs.Advances.{broken_off, done, waited}
-use Rattle.wide_sim.proofs.Sound.{CallsFit, HasWord, can_advance, effects_within, few_ops, first_takes, goes_well, has_word, ops_fit, turn_fits, turn_leaves}
+use Rattle.wide_sim.proofs.Does.{all_take}
+use Rattle.wide_sim.proofs.Sound.{CallsFit, HasWord, can_advance, effects_within, few_of, few_ops, first_takes, goes_well, has_word, ops_fit, turn_fits, turn_leaves}
 
 module _ (latency : OpClass → ℕ) (limits : Limits) (code : RawCode) (call : Frame) (callers : List Suspended) (memory : List ℕ) (cycle room : ℕ)
     (sound : IsSound limits code call callers room) (ops : List WideOp) (ops_is : ops ≡ ops_at code call) where
@@ -61,6 +63,13 @@ module _ (latency : OpClass → ℕ) (limits : Limits) (code : RawCode) (call : 
       let plan : 64 ≤ room = sound.plan_room in
       omega arith
 
+  pub once_case : limits.units Io ≡ 1 → count_of Io ops ≤ 1
+  once_case one =
+      let few : count_of Io ops ≤ limits.units Io = few_of limits code sound.valid call sound.call_fits word.word ops word.at same_ops Io in omega arith
+
+  pub fit_done : (count : ℕ) → list_all (op_fits (length call.ready.regs) (length call.ready.slots)) (take count ops) ≡ true
+  fit_done count = all_take (op_fits (length call.ready.regs) (length call.ready.slots)) ops count fit_ready
+
   abbrev here : Site
   here = site_of code call callers
 
@@ -88,11 +97,14 @@ module _ (latency : OpClass → ℕ) (limits : Limits) (code : RawCode) (call : 
           broken_off latency limits.regs code call callers memory cycle sound.call_fits.func sound.call_fits.there word.word word.at_hand before behind word_in_time
           (subst (λ os. OverHost (Breaks here os places memory) before behind) same_ops (subst (λ s. OverHost (Breaks s ops places memory) before behind) site_is some))
 
-      module _ (values : Store Tagged) (memory_behind : List ℕ) (next : Next) (before behind : World) (does : Does (length call.values.regs) call.at site ops places (held (Clear (pos 0)) values) memory memory_behind before behind next) where
-        does_here : Does limits.regs call.at here ops places (held (Clear (pos 0)) values) memory memory_behind before behind next
+      module _ (values : Store Tagged) (memory_behind : List ℕ) (next : Next) (count : ℕ) (before behind : World) (does : Does (length call.values.regs) call.at site ops places (held (Clear (pos 0)) values) memory memory_behind before behind next count) where
+        does_here : Does limits.regs call.at here ops places (held (Clear (pos 0)) values) memory memory_behind before behind next count
         does_here =
-            subst (λ s. Does limits.regs call.at s ops places (held (Clear (pos 0)) values) memory memory_behind before behind next) site_is
-            (subst (λ n. Does n call.at site ops places (held (Clear (pos 0)) values) memory memory_behind before behind next) sound.call_fits.regs_is does)
+            subst (λ s. Does limits.regs call.at s ops places (held (Clear (pos 0)) values) memory memory_behind before behind next count) site_is
+            (subst (λ n. Does n call.at site ops places (held (Clear (pos 0)) values) memory memory_behind before behind next count) sound.call_fits.regs_is does)
+
+        does_word : Does limits.regs call.at here word.word.ops places (held (Clear (pos 0)) values) memory memory_behind before behind next count
+        does_word = subst (λ os. Does limits.regs call.at here os places (held (Clear (pos 0)) values) memory memory_behind before behind next count) same_ops does_here
 
         fits_turn : effect_fits (scope_of limits code.funcs sound.call_fits.func) (room_at here) (effect_of places (turn_after Idle does_here.plan)) ≡ true
         fits_turn = turn_fits limits code sound.valid call sound.call_fits word.word ops word.at same_ops here refl memory places does_here.plan does_here.planned
@@ -101,14 +113,14 @@ module _ (latency : OpClass → ℕ) (limits : Limits) (code : RawCode) (call : 
         can_case =
             can_advance limits code sound.valid call sound.call_fits word.word ops word.at same_ops callers sound.callers_fit places (turn_after Idle does_here.plan) next does_here.goes fits_turn
 
-        module _ (ready : Store ℕ) (times : held 0 ready ≡ times_after latency cycle ops (held 0 call.ready)) (new : Standing)
+        module _ (ready : Store ℕ) (times : held 0 ready ≡ times_after latency cycle (take count ops) (held 0 call.ready)) (new : Standing)
             (new_is : new ≡ advanced code (cycle + 1) next (record call { values = values; ready = ready }) callers memory_behind) where
           pub done_case : OverHost (Cycles latency (going_at code call callers memory cycle) (sim_of code new (cycle + 1))) before behind
           done_case =
               subst (λ (n : Standing). OverHost (Cycles latency (going_at code call callers memory cycle) (sim_of code n (cycle + 1))) before behind) (sym new_is)
               (done latency limits.regs code call callers memory cycle sound.call_fits.func sound.call_fits.there word.word word.at_hand values ready memory_behind (cycle + 1) soon_is
-              (times ∙ ap (λ os. times_after latency cycle os (held 0 call.ready)) same_ops) next before behind word_in_time (first_takes limits.regs code callers sound.callers_fit)
-              (subst (λ os. Does limits.regs call.at here os places (held (Clear (pos 0)) values) memory memory_behind before behind next) same_ops does_here))
+              (times ∙ ap (λ os. times_after latency cycle (take count os) (held 0 call.ready)) same_ops ∙ ap (λ os. times_after latency cycle os (held 0 call.ready)) does_word.counted)
+              next count before behind word_in_time (first_takes limits.regs code callers sound.callers_fit) does_word)
 
           pub sound_case : length values.regs ≡ length call.values.regs → length values.slots ≡ length call.values.slots → length ready.regs ≡ length call.ready.regs → length ready.slots ≡ length call.ready.slots → (room_behind : ℕ) → room_behind ≡ room → IsSound limits code new.call new.callers room_behind
           sound_case v_regs v_slots r_regs r_slots room_behind same_room =

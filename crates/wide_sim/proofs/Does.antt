@@ -1,5 +1,5 @@
 -- What a word does, from its planned effects.
-use Rattle.std.proofs.Common.{◌≡◌, ℕ, zero, suc, true, Bool, subst, ◌&&◌, List, [], ◌∷◌, length, map, take, refl, sym, ap, ◌∙◌, slice_get}
+use Rattle.std.proofs.Common.{◌≡◌, ℕ, zero, suc, true, false, Bool, subst, ◌&&◌, List, [], ◌∷◌, length, map, take, refl, sym, ap, ◌∙◌, slice_get}
 use Rattle.std.specs.List.{list_all}
 use Rattle.wide_core.specs.declared.code.Loc.{Loc}
 use Rattle.wide_core.specs.declared.code.Loc.TheVariants.{Reg}
@@ -17,16 +17,16 @@ use Rattle.wide_core.specs.declared.code.WideOp.{WideOp}
 use Rattle.ib_meaning.specs.Agreement.{IsPrefix}
 use Rattle.ib_run.specs.OverHost.{OverHost}
 use Rattle.ib_run.proofs.OverHost.{over_weaken}
-use Rattle.wide_core.specs.Word.{Flow, Outcome, effects}
+use Rattle.wide_core.specs.Word.{Flow, Outcome, done, done_with, effect, effects, flow_of}
 use Rattle.wide_sim.specs.declared.next.Next.{Next}
-use Rattle.wide_sim.specs.Cycles.{Breaks, ComesOut, Does, finish, flow, flow_of, outcome_at}
+use Rattle.wide_sim.specs.Cycles.{Breaks, ComesOut, Does, done_at, finish, flow, outcome_at}
 use Rattle.wide_sim.specs.Site.{Site, around, room_at}
 use Rattle.wide_sim.proofs.Words.{word_comes}
-use Rattle.wide_sim.specs.Effects.{Asked, Hears, PrintsSome, turn_after, before_report, text, heard, left_after, places_after, memory_after}
+use Rattle.wide_sim.specs.Effects.{Asked, Hears, PrintsSome, turn_after, before_report, is_report, text, heard, left_after, places_after, memory_after}
 use Rattle.wide_sim.specs.Next.{IsNext, calls_well, has_args}
 use Rattle.wide_sim.specs.Planned.{effect_of}
 use Rattle.wide_sim.specs.Quiet.{is_quiet_plan}
-use Rattle.wide_sim.proofs.Turns.{turn_of_all}
+use Rattle.wide_sim.proofs.Turns.{other_first, report_first, turn_of_all}
 
 pub all_take : {T : Type 0} (test : T → Bool) (xs : List T) (n : ℕ) → list_all test xs ≡ true → list_all test (take n xs) ≡ true
 all_take test xs zero h = refl
@@ -68,7 +68,7 @@ turn_args regs slots fs turn is h = ap (has_args regs slots) is ∙ turn_of_all 
 pub turn_quiet : (fs : List Planned) (turn : Planned) → turn ≡ turn_after Idle fs → list_all is_quiet_plan fs ≡ true → is_quiet_plan turn ≡ true
 turn_quiet fs turn is h = ap is_quiet_plan is ∙ turn_of_all is_quiet_plan fs Idle refl h
 
-finished : (turn : Effect) (s : Flow) → flow_of (finish turn s) ≡ s
+pub finished : (turn : Effect) (s : Flow) → flow_of (finish turn s) ≡ s
 finished (Go exit) s = refl
 finished (LeaveCall z) s = refl
 finished (Stop number kind) s = refl
@@ -77,6 +77,54 @@ finished (WriteTo to value) s = refl
 finished (SaveAt width address value) s = refl
 finished (TakeInto to) s = refl
 finished (Print text) s = refl
+
+-- where control has one place, the operations that are done are those whose effects stand before the first report
+module _ (effect_at : WideOp → Effect) (places : Loc → Tagged) where
+  none_left : (count : ℕ) → take count [] ≡ done true effect_at []
+  none_left zero = refl
+  none_left (suc count) = refl
+
+  none_done : (f : Planned) (op : WideOp) (more : List WideOp) → is_report f ≡ true → done_with true (effect_of places f) op more ≡ []
+  none_done (Report number kind) op more h = refl
+  none_done Idle op more h = cc
+  none_done (Write to value) op more h = cc
+  none_done (Save width address value) op more h = cc
+  none_done (Take to) op more h = cc
+  none_done (PutByte byte) op more h = cc
+  none_done (PutNumber z) op more h = cc
+  none_done (Jump to) op more h = cc
+  none_done (Call result func next args) op more h = cc
+  none_done (Return z) op more h = cc
+
+  one_done : (f : Planned) (op : WideOp) (more : List WideOp) → is_report f ≡ false → done_with true (effect_of places f) op more ≡ op ∷ more
+  one_done (Report number kind) op more h = cc
+  one_done Idle op more h = refl
+  one_done (Write to value) op more h = refl
+  one_done (Save width address value) op more h = refl
+  one_done (Take to) op more h = refl
+  one_done (PutByte byte) op more h = refl
+  one_done (PutNumber z) op more h = refl
+  one_done (Jump to) op more h = refl
+  one_done (Call result func next args) op more h = refl
+  one_done (Return z) op more h = refl
+
+  done_first : (f : Planned) (fs : List Planned) (op : WideOp) (ops : List WideOp) → effect_of places f ≡ effect_at op → ((c : ℕ) → take c fs ≡ before_report fs → take c ops ≡ done true effect_at ops)
+      → (b : Bool) → is_report f ≡ b → (count : ℕ) → take count (f ∷ fs) ≡ before_report (f ∷ fs) → take count (op ∷ ops) ≡ done true effect_at (op ∷ ops)
+  done_first f fs op ops is more true r zero cut = sym (ap (λ e. done_with true e op (done true effect_at ops)) (sym is) ∙ none_done f op (done true effect_at ops) r)
+  done_first f fs op ops is more true r (suc c) cut = let none = cut ∙ report_first f fs r in cc
+  done_first f fs op ops is more false r zero cut = let some = cut ∙ other_first f fs r in cc
+  done_first f fs op ops is more false r (suc c) cut =
+      let both_are = cut ∙ other_first f fs r in
+      let rest : take c fs ≡ before_report fs = cc in
+      ap (λ os. op ∷ os) (more c rest) ∙ sym (ap (λ e. done_with true e op (done true effect_at ops)) (sym is) ∙ one_done f op (done true effect_at ops) r)
+
+  pub done_of_cut : (fs : List Planned) (ops : List WideOp) → map (effect_of places) fs ≡ map effect_at ops → (count : ℕ) → take count fs ≡ before_report fs → take count ops ≡ done true effect_at ops
+  done_of_cut fs [] planned count cut = none_left count
+  done_of_cut [] (op ∷ ops) planned count cut = cc
+  done_of_cut (f ∷ fs) (op ∷ ops) planned count cut =
+      let first : effect_of places f ≡ effect_at op = cc in
+      let rest : map (effect_of places) fs ≡ map effect_at ops = cc in
+      done_first f fs op ops first (done_of_cut fs ops rest) (is_report f) refl count cut
 
 module _ (site : Site) (ops : List WideOp) (places : Loc → Tagged) (memory : List ℕ) (fs cut : List Planned) (planned : map (effect_of places) fs ≡ effects (around site memory) places ops) (cut_is : cut ≡ before_report fs) where
   abbrev control : Effect
@@ -93,11 +141,12 @@ module _ (site : Site) (ops : List WideOp) (places : Loc → Tagged) (memory : L
 
   pub does_word : (regs at : ℕ) (next : Next) (gs : List Planned) (after : Loc → Tagged) (memory_behind : List ℕ) (before behind : World)
       → IsNext regs site.funcs site.next_base at places (turn_after Idle fs) next → Asked cut gs before behind → after ≡ places_after gs places → memory_behind ≡ memory_after gs memory
-      → Does regs at site ops places after memory memory_behind before behind next
-  does_word regs at next gs after memory_behind before behind goes asked after_is memory_is = record {
+      → (count : ℕ) → cut ≡ take count fs → Does regs at site ops places after memory memory_behind before behind next count
+  does_word regs at next gs after memory_behind before behind goes asked after_is memory_is count count_is = record {
     plan = fs;
     planned = planned;
     goes = goes;
+    counted = done_of_cut (effect (around site memory) places) places fs ops planned count (sym count_is ∙ cut_is);
     over = over_weaken (Hears cut gs) (ComesOut site ops places after memory memory_behind control) before behind asked.over
         (λ input left out h.
         comes_so gs input left out h
@@ -113,4 +162,4 @@ module _ (site : Site) (ops : List WideOp) (places : Loc → Tagged) (memory : L
   pub breaks_word : (before behind : World) → OverHost (PrintsSome (text cut)) before behind → OverHost (Breaks site ops places memory) before behind
   breaks_word before behind some =
       over_weaken (PrintsSome (text cut)) (Breaks site ops places memory) before behind some
-      (λ input left out p. subst (λ (t : List ℕ). IsPrefix out t) (sym (prints_so input)) p)
+      (λ input left out p. record { begins = subst (λ (t : List ℕ). IsPrefix out t) (sym (prints_so input)) p.begins; kept = p.kept })

@@ -5,6 +5,7 @@ pub mod Does
 pub mod Fits
 pub mod Homes
 pub mod Late
+pub mod Once
 pub mod Places
 pub mod Plans
 pub mod Runs

@@ -1,6 +1,6 @@
 -- Cycles one after the other.
 use Rattle.std.proofs.Common.{◌≡◌, ℕ, zero, suc, ◌+◌, ◌<◌, ◌≤◌, ◌⊎◌, inl, inr, Bool, true, false, List, [], ◌++◌, refl, sym, ap, ◌∙◌, subst, arith}
-use Rattle.std.specs.Prelude.{Result, Ok, Err, IfOk, OnErr}
+use Rattle.std.specs.Prelude.{IsTrue, Result, Ok, Err, IfOk, OnErr}
 use Rattle.ib_meaning.specs.Agreement.{Finish, Returned, Faulted, Meaning, More, IsPrefix, out_of}
 use Rattle.ib_meaning.specs.Machine.{Machine, Stops, means}
 use Rattle.ib_base.specs.World.{World}
@@ -10,13 +10,13 @@ use Rattle.ib_run.proofs.OverHost.{over_join, over_none, over_weaken}
 use Rattle.ib_run.proofs.Paths.{path_more, path_over, path_begins}
 use Rattle.machine_desc.specs.declared.machine.OpClass.{OpClass}
 use Rattle.wide_core.specs.declared.code.RawCode.{RawCode}
-use Rattle.wide_core.specs.Meaning.{wide_step, wide_meaning}
+use Rattle.wide_core.specs.Meaning.{wide_step, wide_end, wide_meaning}
 use Rattle.wide_sim.specs.declared.outcome.SimErr.{SimErr}
 use Rattle.wide_sim.specs.declared.outcome.SimOutcome.{SimOutcome}
 use Rattle.wide_sim.specs.declared.outcome.SimOutcome.TheVariants.{Ended as EndedAfter, Reported as ReportedAfter, Spent}
 use Rattle.wide_sim.specs.declared.outcome.Stepped.{Stepped}
 use Rattle.wide_sim.specs.declared.outcome.Stepped.TheVariants.{Going, Ended, Reported}
-use Rattle.wide_sim.specs.Simulation.{Simulation, Begins, BreaksOff, Cycles, EndsAfter, IsLoaded, Leads, Ran, RunEnds, Simulates, is_over, meaning_from, outcome_by, state_of, step_to}
+use Rattle.wide_sim.specs.Simulation.{Simulation, Begins, BreaksOff, ComesToEnd, Cycles, EndsAfter, IsLoaded, Leads, Ran, RunEnds, Simulates, is_over, meaning_from, outcome_by, state_of, step_to}
 
 -- ---- before its end a path's machine goes on
 
@@ -59,7 +59,7 @@ module _ (latency : OpClass → ℕ) where
   module _ (k : ℕ) (old mid new : Simulation) (w0 w1 w2 : World) (same_code : mid.code ≡ old.code) (leads : OverHost (Leads latency k old mid) w0 w1) where
     cycle_is : (input left out : List ℕ) (stepped : Stepped) → new.stepped ≡ stepped → Cycles latency mid new input left out → wide_step latency old.code (state_of mid) input ≡ step_to stepped (state_of new) left out
     cycle_is input left out stepped is cycle =
-        ap (λ code. wide_step latency code (state_of mid) input) (sym same_code) ∙ cycle ∙ ap (λ s. step_to s (state_of new) left out) is
+        ap (λ code. wide_step latency code (state_of mid) input) (sym same_code) ∙ cycle.step ∙ ap (λ s. step_to s (state_of new) left out) is
 
     pub leads_more : new.stepped ≡ Going → OverHost (Cycles latency mid new) w1 w2 → OverHost (Leads latency (k + 1) old new) w0 w2
     leads_more going cycle =
@@ -68,13 +68,24 @@ module _ (latency : OpClass → ℕ) where
         (over_join (Leads latency k old mid) (Cycles latency mid new) (Leads latency (suc k) old new) w0 w1 w2 leads cycle
         (λ input rest left out more path goes. Then (state_of new) left more path (cycle_is rest left more Going going goes)))
 
-    ends_so : (stepped : Stepped) (finish : Finish) → new.stepped ≡ stepped → ((left out : List ℕ) → step_to stepped (state_of new) left out ≡ Stops finish left out) → OverHost (Cycles latency mid new) w1 w2 → OverHost (EndsAfter (meaning_from latency old) finish (k + 1)) w0 w2
-    ends_so stepped finish is stops cycle =
-        over_join (Leads latency k old mid) (Cycles latency mid new) (EndsAfter (meaning_from latency old) finish (k + 1)) w0 w1 w2 leads cycle
-        (λ input rest left out more path goes. record {
-          over = path_over (wide_step latency old.code) path finish left more (cycle_is rest left more stepped is goes ∙ stops left more) (k + 1) (omega arith);
-          sooner = λ m lt. not_over (wide_step latency old.code) path m (omega arith);
-        })
+    ends_so : (stepped : Stepped) (finish : Finish) → new.stepped ≡ stepped → is_over stepped ≡ true → ((left out : List ℕ) → step_to stepped (state_of new) left out ≡ Stops finish left out) → OverHost (Cycles latency mid new) w1 w2 → OverHost (ComesToEnd latency finish (k + 1) old new) w0 w2
+    ends_so stepped finish is over stops cycle =
+        over_join (Leads latency k old mid) (Cycles latency mid new) (ComesToEnd latency finish (k + 1) old new) w0 w1 w2 leads cycle
+        (λ input rest left out more path goes. (
+          record {
+            over = path_over (wide_step latency old.code) path finish left more (cycle_is rest left more stepped is goes ∙ stops left more) (k + 1) (omega arith);
+            sooner = λ m lt. not_over (wide_step latency old.code) path m (omega arith);
+          },
+          record {
+            earlier = k;
+            count = omega arith;
+            state = state_of mid;
+            rest = rest;
+            printed = out;
+            leads = path;
+            stands = goes.last (ap is_over is ∙ over) ∙ ap (λ code. wide_end latency code (state_of mid) rest) same_code;
+          },
+        ))
 
     pub ran_over : (most : ℕ) (outcome : SimOutcome) (cycle : ℕ) → k < most → cycle ≡ old.cycle + (k + 1) → (new.stepped ≡ Going → ⊥) → outcome ≡ outcome_by new.stepped cycle → OverHost (Cycles latency mid new) w1 w2 → Ran latency outcome most old new w0 w2
     ran_over most outcome cycle lt count over is goes =
@@ -82,14 +93,14 @@ module _ (latency : OpClass → ℕ) where
       where
         by_end : (stepped : Stepped) → new.stepped ≡ stepped → Ran latency (outcome_by stepped cycle) most old new w0 w2
         by_end Going e = absurd (over e)
-        by_end (Ended result) e = record { steps = k + 1; within = omega arith; count = count; over = ends_so (Ended result) (Returned result) e (λ left out. refl) goes }
-        by_end (Reported place kind) e = record { steps = k + 1; within = omega arith; count = count; over = ends_so (Reported place kind) (Faulted place kind) e (λ left out. refl) goes }
+        by_end (Ended result) e = record { steps = k + 1; within = omega arith; count = count; over = ends_so (Ended result) (Returned result) e refl (λ left out. refl) goes }
+        by_end (Reported place kind) e = record { steps = k + 1; within = omega arith; count = count; over = ends_so (Reported place kind) (Faulted place kind) e refl (λ left out. refl) goes }
 
     pub begins_so : (most : ℕ) → k < most → OverHost (BreaksOff latency mid) w1 w2 → OverHost (Begins (meaning_from latency old) most) w0 w2
     begins_so most lt broken =
         over_join (Leads latency k old mid) (BreaksOff latency mid) (Begins (meaning_from latency old) most) w0 w1 w2 leads broken
         (λ input rest left out more path part.
-        path_begins (wide_step latency old.code) path more (subst (λ (code : RawCode). IsPrefix more (printed_of (wide_step latency code (state_of mid) rest))) same_code part) most lt)
+        path_begins (wide_step latency old.code) path more (subst (λ (code : RawCode). IsPrefix more (printed_of (wide_step latency code (state_of mid) rest))) same_code part.begins) most lt)
 
   pub ran_spent : (old new : Simulation) (most : ℕ) (outcome : SimOutcome) (w0 w1 : World) → new.stepped ≡ Going → outcome ≡ outcome_by new.stepped new.cycle → OverHost (Leads latency most old new) w0 w1 → Ran latency outcome most old new w0 w1
   ran_spent old new most outcome w0 w1 going is leads =
@@ -110,12 +121,12 @@ module _ (latency : OpClass → ℕ) where
     }
 
     module _ (new : Simulation) (before after : World) (first : sim.cycle ≡ 0) where
-      ended : (finish : Finish) (cycles most : ℕ) → RunEnds latency finish cycles most sim before after → OverHost (λ input left out. (cycles ≤ most) × EndsAfter (wide_meaning latency code) finish cycles input left out) before after
+      ended : (finish : Finish) (cycles most : ℕ) → RunEnds latency finish cycles most sim new before after → OverHost (λ input left out. (cycles ≤ most) × EndsAfter (wide_meaning latency code) finish cycles input left out) before after
       ended finish cycles most e =
           let count : e.steps ≡ cycles = let h = e.count in omega arith in
           let within = e.within in
-          over_weaken (EndsAfter (meaning_from latency sim) finish e.steps) (λ input left out. (cycles ≤ most) × EndsAfter (wide_meaning latency code) finish cycles input left out) before after e.over
-          (λ input left out h. (omega arith, subst (λ n. EndsAfter (wide_meaning latency code) finish n input left out) count (ended_so finish e.steps input left out h)))
+          over_weaken (ComesToEnd latency finish e.steps sim new) (λ input left out. (cycles ≤ most) × EndsAfter (wide_meaning latency code) finish cycles input left out) before after e.over
+          (λ input left out h. (omega arith, subst (λ n. EndsAfter (wide_meaning latency code) finish n input left out) count (ended_so finish e.steps input left out h.0)))
 
       spent : (most : ℕ) → OverHost (Leads latency most sim new) before after → OverHost (λ input left out. wide_meaning latency code input most ≡ More out left) before after
       spent most leads =

@@ -15,7 +15,9 @@ use Rattle.wide_core.specs.Classes.{is_register}
 use Rattle.wide_core.specs.Cycle.{touched, target_if}
 use Rattle.wide_core.specs.Meaning.{func_of, first_ops}
 use Rattle.wide_core.specs.Parts.{words_of, frame_of}
-use Rattle.wide_core.specs.Valid.{Limits, Scope, IsValid, calls_well, goes_within, is_last, is_within, scope_of, takes}
+use Rattle.wide_core.specs.Valid.{Limits, Scope, IsValid, calls_well, count_of, goes_within, has_units, is_last, is_within, scope_of, takes}
+use Rattle.machine_desc.specs.declared.machine.OpClass.{OpClass}
+use Rattle.machine_desc.specs.declared.machine.OpClass.TheVariants.{Alu, Mul, Mem, Io, Control}
 use Rattle.wide_core.specs.Word.{effects}
 use Rattle.wide_core.proofs.Both.{both, both_first, both_second}
 use Rattle.wide_core.proofs.Kept.{FuncKept, WordKept, func_kept, op_kept}
@@ -119,6 +121,18 @@ module _ (limits : Limits) (code : RawCode) (valid : IsValid limits code) (call 
   pub few_ops : length ops ≤ limits.width
   few_ops =
       at_most (length ops) limits.width (both_second (nat_le 1 (length ops)) (nat_le (length ops) limits.width) (both_first (nat_le 1 (length ops) && nat_le (length ops) limits.width) _ word_kept.few))
+
+  pub few_of : (class : OpClass) → count_of class ops ≤ limits.units class
+  few_of class = at_most (count_of class ops) (limits.units class) (class_kept class (both_second (nat_le 1 (length ops) && nat_le (length ops) limits.width) _ word_kept.few))
+    where
+      class_kept : (class : OpClass) → list_all (has_units limits ops) (Alu ∷ Mul ∷ Mem ∷ Io ∷ Control ∷ []) ≡ true → has_units limits ops class ≡ true
+      class_kept Alu all = both_first (has_units limits ops Alu) _ all
+      class_kept Mul all = both_first (has_units limits ops Mul) _ (both_second (has_units limits ops Alu) _ all)
+      class_kept Mem all = both_first (has_units limits ops Mem) _ (both_second (has_units limits ops Mul) _ (both_second (has_units limits ops Alu) _ all))
+      class_kept Io all =
+          both_first (has_units limits ops Io) _ (both_second (has_units limits ops Mem) _ (both_second (has_units limits ops Mul) _ (both_second (has_units limits ops Alu) _ all)))
+      class_kept Control all =
+          both_first (has_units limits ops Control) _ (both_second (has_units limits ops Io) _ (both_second (has_units limits ops Mem) _ (both_second (has_units limits ops Mul) _ (both_second (has_units limits ops Alu) _ all))))
 
   one_fits : (os : List WideOp) → list_all (op_kept scope) os ≡ true → list_all (op_fits limits.regs fits.func.slots) os ≡ true
   one_fits [] h = refl

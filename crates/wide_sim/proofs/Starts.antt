@@ -12,14 +12,14 @@ use Rattle.wide_core.specs.declared.code.Tagged.TheVariants.{Clear}
 use Rattle.wide_core.specs.declared.code.WideFunc.{WideFunc}
 use Rattle.wide_core.specs.declared.code.Word.{Word}
 use Rattle.wide_core.specs.Cycle.{Times}
-use Rattle.wide_core.specs.Meaning.{func_of, put_all, word_start, wide_start}
+use Rattle.wide_core.specs.Meaning.{Wide, func_of, put_all, word_start, wide_start}
 use Rattle.wide_core.specs.Parts.{first_base, first_memory, frame_of, is_main, number_of_main, params_of, words_of}
 use Rattle.wide_core.specs.Valid.{Limits, IsValid, is_empty, is_entry}
 use Rattle.wide_core.proofs.Both.{both_first, both_second}
 use Rattle.wide_core.proofs.Kept.{func_kept, image_kept, entry_kept}
 use Rattle.wide_sim.specs.declared.frame.Frame.{Frame}
 use Rattle.wide_sim.specs.Frames.{IsEntered}
-use Rattle.wide_sim.specs.Simulation.{Simulation, Wide, IsLoaded, IsSound, going_at, state_of}
+use Rattle.wide_sim.specs.Simulation.{Simulation, IsLoaded, IsSound, going_at, state_of}
 use Rattle.wide_sim.specs.Store.{held}
 use Rattle.wide_sim.proofs.Sound.{at_most, below_of_some, item_of_some}
 

@@ -15,7 +15,7 @@ use Rattle.wide_sim.specs.declared.planned.Planned.{Planned}
 use Rattle.wide_sim.specs.declared.planned.Planned.TheVariants.{Idle, Write, Save, Take, PutByte, PutNumber, Jump, Call, Return, Report}
 use Rattle.wide_sim.specs.Effects.{turn_after, before_report, is_report, written, stored_by, places_after, memory_after}
 
-report_first : (f : Planned) (fs : List Planned) → is_report f ≡ true → before_report (f ∷ fs) ≡ []
+pub report_first : (f : Planned) (fs : List Planned) → is_report f ≡ true → before_report (f ∷ fs) ≡ []
 report_first (Report number kind) fs h = refl
 report_first Idle fs h = cc
 report_first (Write to value) fs h = cc
@@ -27,7 +27,7 @@ report_first (Jump to) fs h = cc
 report_first (Call result func next args) fs h = cc
 report_first (Return z) fs h = cc
 
-other_first : (f : Planned) (fs : List Planned) → is_report f ≡ false → before_report (f ∷ fs) ≡ f ∷ before_report fs
+pub other_first : (f : Planned) (fs : List Planned) → is_report f ≡ false → before_report (f ∷ fs) ≡ f ∷ before_report fs
 other_first (Report number kind) fs h = cc
 other_first Idle fs h = refl
 other_first (Write to value) fs h = refl

@@ -1,5 +1,5 @@
 -- What the simulator does of a word.
-use Rattle.std.specs.Prelude.{◌≡◌, ℕ, true, List, map}
+use Rattle.std.specs.Prelude.{◌≡◌, ℕ, true, List, map, take}
 use Rattle.ib_meaning.specs.Agreement.{IsPrefix}
 use Rattle.ib_base.specs.World.{World}
 use Rattle.ib_run.specs.OverHost.{OverHost}
@@ -8,7 +8,7 @@ use Rattle.wide_core.specs.declared.code.Tagged.{Tagged}
 use Rattle.wide_core.specs.declared.code.WideOp.{WideOp}
 use Rattle.wide_core.specs.Operation.{Effect, Go, Leave, Stop}
 use Rattle.wide_core.specs.Valid.{Scope}
-use Rattle.wide_core.specs.Word.{Flow, Outcome, Through, Gone, Left, Stopped, after_word, effects}
+use Rattle.wide_core.specs.Word.{Flow, Outcome, Through, Gone, Left, Stopped, after_word, done, effect, effects, flow_of}
 use Rattle.wide_sim.specs.declared.next.Next.{Next}
 use Rattle.wide_sim.specs.declared.planned.Planned.{Planned}
 use Rattle.wide_sim.specs.declared.planned.Planned.TheVariants.{Idle}
@@ -34,24 +34,24 @@ scope_at regs slots words site = record { regs = regs; slots = slots; words = wo
 abbrev pub outcome_at : Site → List WideOp → (Loc → Tagged) → (memory input : List ℕ) → Outcome
 outcome_at site ops places memory input = after_word true ops site.base (room_at site) places memory input
 
-abbrev pub flow_of : Outcome → Flow
-flow_of (Through s) = s
-flow_of (Gone exit s) = s
-flow_of (Left z s) = s
-flow_of (Stopped number kind s) = s
-
 -- the word comes out so with this input, which leaves and prints that
 abbrev pub ComesOut : Site → List WideOp → (places after : Loc → Tagged) (memory memory_after : List ℕ) → Effect → (input left out : List ℕ) → Type 0
 ComesOut site ops places after memory memory_after turn input left out =
     outcome_at site ops places memory input ≡ finish turn (flow after memory_after left out)
 
--- a word was done over a host
-pub record Does (regs at : ℕ) (site : Site) (ops : List WideOp) (places after : Loc → Tagged) (memory memory_after : List ℕ) (before behind : World) (next : Next) : Type 0 where
+-- the operations of the word that are done
+abbrev pub done_at : Site → List WideOp → (places : Loc → Tagged) (memory : List ℕ) → List WideOp
+done_at site ops places memory = done true (effect (around site memory) places) ops
+
+-- a word was done over a host, so many of its operations
+pub record Does (regs at : ℕ) (site : Site) (ops : List WideOp) (places after : Loc → Tagged) (memory memory_after : List ℕ) (before behind : World) (next : Next) (count : ℕ) : Type 0 where
   pub plan : List Planned
   pub planned : map (effect_of places) plan ≡ effects (around site memory) places ops
   pub goes : IsNext regs site.funcs site.next_base at places (turn_after Idle plan) next
+  pub counted : take count ops ≡ done_at site ops places memory
   pub over : OverHost (ComesOut site ops places after memory memory_after (effect_of places (turn_after Idle plan))) before behind
 
--- a beginning of what the word prints
-abbrev pub Breaks : Site → List WideOp → (Loc → Tagged) → (memory input left out : List ℕ) → Type 0
-Breaks site ops places memory input left out = IsPrefix out (flow_of (outcome_at site ops places memory input)).out
+-- a beginning of what the word prints, and nothing was taken, since a word asks the host once
+pub record Breaks (site : Site) (ops : List WideOp) (places : Loc → Tagged) (memory input left out : List ℕ) : Type 0 where
+  pub begins : IsPrefix out (flow_of (outcome_at site ops places memory input)).out
+  pub kept : left ≡ input

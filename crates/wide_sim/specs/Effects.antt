@@ -1,5 +1,5 @@
 -- What the planned effects of a word come to: where control goes, the text, the input, registers and slots, the memory.
-use Rattle.std.specs.Prelude.{◌≡◌, ℕ, ℤ, pos, negsuc, Bool, true, false, Option, Some, None, List, [], ◌∷◌, ◌++◌}
+use Rattle.std.specs.Prelude.{◌≡◌, ℕ, suc, ℤ, pos, negsuc, Bool, true, false, Option, Some, None, List, [], ◌∷◌, ◌++◌, if◌then◌else◌}
 use Rattle.std.specs.Fmt.{signed_decimal}
 use Rattle.ib_base.specs.World.{World}
 use Rattle.wide_core.specs.declared.code.Loc.{Loc}
@@ -84,9 +84,22 @@ pub record HearsOne (f g : Planned) (input left out : List ℕ) : Type 0 where
   pub rest : left_behind f input ≡ left
   pub prints : out ≡ text_of f
 
--- a beginning of the text was printed
-abbrev pub PrintsSome : List ℕ → (input left out : List ℕ) → Type 0
-PrintsSome text input left out = IsPrefix out text
+-- it takes a byte or prints
+abbrev pub asks : Planned → Bool
+asks (Take to) = true
+asks (PutByte byte) = true
+asks (PutNumber z) = true
+asks f = false
+
+-- how many of the effects do
+abbrev pub asking : List Planned → ℕ
+asking [] = 0
+asking (f ∷ fs) = if asks f then suc (asking fs) else asking fs
+
+-- a beginning of the text was printed, and nothing was taken
+pub record PrintsSome (text input left out : List ℕ) : Type 0 where
+  pub begins : IsPrefix out text
+  pub kept : left ≡ input
 
 -- over a host the effects became those, which write no more
 pub record Asked (fs gs : List Planned) (before after : World) : Type 0 where

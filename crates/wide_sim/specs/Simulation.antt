@@ -1,5 +1,5 @@
 -- A simulator, the state of the machine that it stands for, and what its cycles and runs show.
-use Rattle.std.specs.Prelude.{◌≡◌, ℕ, ◌+◌, ◌<◌, ◌≤◌, Bool, true, false, List, map}
+use Rattle.std.specs.Prelude.{◌≡◌, ℕ, suc, ◌+◌, ◌<◌, ◌≤◌, Bool, true, false, IsTrue, List, map}
 use Rattle.ib_meaning.specs.Agreement.{Meaning, Finish, Returned, Faulted, More, Over, IsPrefix, out_of}
 use Rattle.ib_meaning.specs.Machine.{Step, Goes, Stops, means}
 use Rattle.ib_base.specs.World.{World}
@@ -7,8 +7,7 @@ use Rattle.ib_run.specs.OverHost.{OverHost}
 use Rattle.ib_run.specs.Path.{Path, printed_of}
 use Rattle.machine_desc.specs.declared.machine.OpClass.{OpClass}
 use Rattle.wide_core.specs.declared.code.RawCode.{RawCode}
-use Rattle.wide_core.specs.Cycle.{Timed}
-use Rattle.wide_core.specs.Meaning.{Running, Clock, wide_step, wide_start}
+use Rattle.wide_core.specs.Meaning.{Wide, wide_step, wide_end, wide_start}
 use Rattle.wide_core.specs.Valid.{Limits, IsValid}
 use Rattle.wide_sim.specs.declared.frame.Frame.{Frame}
 use Rattle.wide_sim.specs.declared.frame.Suspended.{Suspended}
@@ -37,9 +36,6 @@ sim_of code s cycle = record { code = code; call = s.call; callers = s.callers; 
 -- one that goes on
 abbrev pub going_at : RawCode → Frame → List Suspended → (memory : List ℕ) (cycle : ℕ) → Simulation
 going_at code call callers memory cycle = sim_of code (standing call callers memory Going) cycle
-
-abbrev pub Wide : Type 0
-Wide = Timed Running Clock
 
 -- the machine's state
 unfoldable pub state_of : Simulation → Wide
@@ -81,13 +77,15 @@ module _ (latency : OpClass → ℕ) where
     pub first : sim.cycle ≡ 0
     pub start : state_of sim ≡ wide_start latency code
 
-  -- one cycle of the machine
-  abbrev pub Cycles : (old new : Simulation) → (input left out : List ℕ) → Type 0
-  Cycles old new input left out = wide_step latency old.code (state_of old) input ≡ step_to new.stepped (state_of new) left out
+  -- one cycle of the machine; where it is the last, the machine stands as its end leaves it
+  pub record Cycles (old new : Simulation) (input left out : List ℕ) : Type 0 where
+    pub step : wide_step latency old.code (state_of old) input ≡ step_to new.stepped (state_of new) left out
+    pub last : IsTrue (is_over new.stepped) → state_of new ≡ wide_end latency old.code (state_of old) input
 
-  -- a beginning of what the cycle prints
-  abbrev pub BreaksOff : Simulation → (input left out : List ℕ) → Type 0
-  BreaksOff sim input left out = IsPrefix out (printed_of (wide_step latency sim.code (state_of sim) input))
+  -- a beginning of what the cycle prints, and nothing was taken
+  pub record BreaksOff (sim : Simulation) (input left out : List ℕ) : Type 0 where
+    pub begins : IsPrefix out (printed_of (wide_step latency sim.code (state_of sim) input))
+    pub kept : left ≡ input
 
   -- so many cycles of the machine, before its end
   abbrev pub Leads : ℕ → (old new : Simulation) → (input left out : List ℕ) → Type 0
@@ -113,17 +111,32 @@ abbrev pub Begins : Meaning → (most : ℕ) → (input left out : List ℕ) →
 Begins meaning most input left out = IsPrefix out (out_of (meaning input most))
 
 module _ (latency : OpClass → ℕ) where
+  -- where the last of so many cycles is the machine's last, it leaves the machine so
+  pub record StandsAfter (steps : ℕ) (old new : Simulation) (input : List ℕ) : Type 0 where
+    pub earlier : ℕ
+    pub count : steps ≡ suc earlier
+    pub state : Wide
+    pub rest : List ℕ
+    pub printed : List ℕ
+    pub leads : Path (wide_step latency old.code) (state_of old) input earlier state rest printed
+    pub stands : state_of new ≡ wide_end latency old.code state rest
+
+  -- so many cycles and no fewer bring the machine to this end, and leave it so
+  abbrev pub ComesToEnd : (finish : Finish) (steps : ℕ) (old new : Simulation) → (input left out : List ℕ) → Type 0
+  ComesToEnd finish steps old new input left out =
+      EndsAfter (meaning_from latency old) finish steps input left out × StandsAfter steps old new input
+
   -- a run came to an end that came with this cycle, counted from the start of `main`
-  pub record RunEnds (finish : Finish) (cycles most : ℕ) (old : Simulation) (before after : World) : Type 0 where
+  pub record RunEnds (finish : Finish) (cycles most : ℕ) (old new : Simulation) (before after : World) : Type 0 where
     pub steps : ℕ
     pub within : steps ≤ most
     pub count : cycles ≡ old.cycle + steps
-    pub over : OverHost (EndsAfter (meaning_from latency old) finish steps) before after
+    pub over : OverHost (ComesToEnd finish steps old new) before after
 
   -- a run from a simulator that goes on
   abbrev pub Ran : SimOutcome → (most : ℕ) → (old new : Simulation) → (before after : World) → Type 0
-  Ran (EndedAfter result cycles) most old new before after = RunEnds (Returned result) cycles most old before after
-  Ran (ReportedAfter place kind cycles) most old new before after = RunEnds (Faulted place kind) cycles most old before after
+  Ran (EndedAfter result cycles) most old new before after = RunEnds (Returned result) cycles most old new before after
+  Ran (ReportedAfter place kind cycles) most old new before after = RunEnds (Faulted place kind) cycles most old new before after
   Ran Spent most old new before after = OverHost (Leads latency most old new) before after
 
   -- a run broke off in a cycle, before which the simulator stands

@@ -1,8 +1,8 @@
-ghost use Rattle.std.specs.Prelude.{◌≡◌, true, length, IfOk, IsOk, OnOk, OnErr, IsErrOf};
+ghost use Rattle.std.specs.Prelude.{◌≡◌, ◌≤◌, true, length, IfOk, IsOk, OnOk, OnErr, IsErrOf};
 ghost use Rattle.std.specs.List.{list_all};
 ghost use Rattle.ib_base.specs.Cause.{HasCause};
 ghost use Rattle.ib_run.specs.OverHost.{OverHost};
-ghost use Rattle.wide_sim.specs.Effects.{Asked, AskedOne, PrintsSome, number_of_byte, text, text_of};
+ghost use Rattle.wide_sim.specs.Effects.{Asked, AskedOne, PrintsSome, asking, asks, number_of_byte, text, text_of};
 ghost use Rattle.wide_sim.specs.Quiet.{is_quiet_plan};
 
 use crate::planned::Planned;
@@ -12,6 +12,7 @@ use wide_core::{Loc, Tagged};
 
 /// Prints what the effects print, and puts the bytes that they take in their place.
 pub(crate) fn ask<H: Host>(host: &mut H, plan: &mut [Planned]) -> Result<(), HostErr>
+    requires { asking plan.old ≤ 1 }
     ensures ok { OnOk result (Asked plan.old plan.new (H.world host.old) (H.world host.new)) }
     ensures err { OnErr result (OverHost (PrintsSome (text plan.old)) (H.world host.old) (H.world host.new)) }
     ensures len { length plan.new ≡ length plan.old }
@@ -32,6 +33,7 @@ pub(crate) fn ask<H: Host>(host: &mut H, plan: &mut [Planned]) -> Result<(), Hos
 fn ask_one<'a, H: Host>(host: &mut H, effect: Planned<'a>) -> Result<Planned<'a>, HostErr>
     ensures ok { IfOk result (λ given. AskedOne effect.entry given (H.world host.old) (H.world host.new)) }
     ensures err { OnErr result (OverHost (PrintsSome (text_of effect.entry)) (H.world host.old) (H.world host.new)) }
+    ensures asks { OnErr result (asks effect.entry ≡ true) }
     ensures quiet { is_quiet_plan effect.entry ≡ true → IsOk result }
     ensures cause { HasCause (H.faults host.old) (H.faults host.new) result }
     ensures still_sure { H.sure host.old → H.sure host.new }

@@ -1,7 +1,8 @@
 ghost use Rattle.std.specs.Prelude.{◌≡◌, ◌+◌, ◌<◌, ◌≤◌, ◌^◌, ℕ, true, pos, length, slice_get, Some, IfOk, IsOk, OnErr, IsErrOf};
+ghost use Rattle.machine_desc.specs.declared.machine.OpClass.TheVariants.{Io};
 ghost use Rattle.std.specs.List.{list_all};
 ghost use Rattle.wide_core.specs.declared.code.WideFunc.{WideFunc};
-ghost use Rattle.wide_core.specs.Valid.{is_within};
+ghost use Rattle.wide_core.specs.Valid.{count_of, is_within};
 ghost use Rattle.wide_core.specs.Word.{effects};
 ghost use Rattle.ib_run.specs.OverHost.{OverHost};
 ghost use Rattle.wide_sim.specs.Causes.{SimCause};
@@ -24,6 +25,13 @@ use ib_mem::Memory;
 use std::alloc::Global;
 use wide_core::{Tagged, WideOp};
 
+/// What a word leaves: where control goes, and how many of its operations were done.
+#[derive(Drop)]
+pub struct Behind {
+    pub next: Next,
+    pub done: usize,
+}
+
 /// Does a word. After an error nothing is written.
 pub(crate) fn do_word<'a, H: Host>(
     host: &mut H,
@@ -34,13 +42,15 @@ pub(crate) fn do_word<'a, H: Host>(
     ops: &'a [WideOp],
     values: &mut Store<Tagged>,
     memory: &mut Memory,
-) -> Result<Next, SimErr>
+) -> Result<Behind, SimErr>
     requires words { at + 1 < 2 ^ 64 }
     requires room { length ops.now ≤ length plan.old }
     requires fit { list_all (op_fits (length values.old.regs) (length values.old.slots)) ops.now ≡ true }
     requires within { (words : ℕ) × (list_all (effect_fits (scope_at (length values.old.regs) (length values.old.slots) words site.now) (room_at site.now)) (effects (around site.now memory.old) (held (Tagged.Clear (pos 0)) values.old) ops.now) ≡ true) }
+    requires once { count_of Io ops.now ≤ 1 }
     requires params { (f : ℕ) (func : WideFunc) → slice_get site.now.funcs f ≡ Some func → list_all (is_within (length values.old.regs) func.slots) func.params ≡ true }
-    ensures ok { IfOk result (Does (length values.old.regs) at site.now ops.now (held (Tagged.Clear (pos 0)) values.old) (held (Tagged.Clear (pos 0)) values.new) memory.old memory.new (H.world host.old) (H.world host.new)) }
+    ensures ok { IfOk result (λ behind. Does (length values.old.regs) at site.now ops.now (held (Tagged.Clear (pos 0)) values.old) (held (Tagged.Clear (pos 0)) values.new) memory.old memory.new (H.world host.old) (H.world host.new) behind.next behind.done) }
+    ensures done { IfOk result (λ behind. behind.done ≤ length ops.now) }
     ensures values_kept { OnErr result (values.new ≡ values.old) }
     ensures memory_kept { OnErr result (memory.new ≡ memory.old) }
     ensures broken { OnErr result (OverHost (Breaks site.now ops.now (held (Tagged.Clear (pos 0)) values.old) memory.old) (H.world host.old) (H.world host.new)) }
@@ -73,7 +83,7 @@ pub(crate) fn do_word<'a, H: Host>(
     match ask(host, effects) {
         Ok(()) => {
             write_effects(values, memory, effects);
-            Ok(next)
+            Ok(Behind { next, done: count })
         }
         Err(error) => {
             drop(next);

@@ -22,6 +22,7 @@ mod times;
 mod word;
 
 pub use callers::Callers;
+pub use cycle::Behind;
 pub use frame::{Frame, Suspended};
 pub use from_start::simulate;
 pub use next::Next;

@@ -13,7 +13,7 @@ ghost use Rattle.wide_sim.specs.Store.{held};
 use crate::advance::advance;
 use crate::at_hand::{next_base, ops_at_hand};
 use crate::callers::Callers;
-use crate::cycle::do_word;
+use crate::cycle::{Behind, do_word};
 use crate::frame::Frame;
 use crate::outcome::{SimErr, Stepped};
 use crate::planned::Planned;
@@ -87,11 +87,12 @@ fn do_at_hand<'a, M: Machine, H: Host>(
 {
     let site = site_at(code, call, callers);
     let at = call.at;
-    let next = match do_word(host, alloc, plan, &site, at, ops, &mut call.values, memory) {
-        Ok(next) => next,
+    let behind = match do_word(host, alloc, plan, &site, at, ops, &mut call.values, memory) {
+        Ok(behind) => behind,
         Err(error) => return Err(error),
     };
-    set_times::<M>(&mut call.ready, cycle, ops);
+    let Behind { next, done } = behind;
+    set_times::<M>(&mut call.ready, cycle, &ops[..done]);
     Ok(advance(code, call, callers, memory, cycle + 1, next))
 }
 

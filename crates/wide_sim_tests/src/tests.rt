@@ -18,6 +18,7 @@ enum Step {
     Call { to: Loc, next: u32 },
     /// Passes nothing to `main`.
     Again { next: u32 },
+    Jump(u32),
     Give(u32),
     Stop,
 }
@@ -40,6 +41,7 @@ fn act_of(alloc: Global, step: Step) -> Result<WideAct, AllocError> {
             next,
             args: Items::new(alloc),
         }),
+        Step::Jump(to) => Ok(WideAct::Jump { to }),
         Step::Give(from) => Ok(WideAct::Return(Some(from))),
         Step::Stop => Ok(WideAct::Return(None)),
     }
@@ -569,4 +571,75 @@ fn tries_again(alloc: Global) -> Result<bool, SimErr> {
 #[test]
 fn a_cycle_that_fails_can_be_done_again(rt: HostRuntime) {
     assert!(rt; matches!(tries_again(rt.alloc()), Ok(true)));
+}
+
+fn late_behind_a_jump(alloc: Global) -> Result<bool, SimErr> {
+    let rows = [
+        ((1, number(0, 6)), (2, number(2, 0))),
+        ((3, Step::Jump(2)), (4, square(1, 0))),
+        ((5, show(1)), (6, number(2, 1))),
+    ];
+    pair_row(alloc, &rows, ended(0, 7), b"36")
+}
+
+#[test]
+fn what_stands_beside_a_jump_is_done_and_waited_for(rt: HostRuntime) {
+    assert!(rt; matches!(late_behind_a_jump(rt.alloc()), Ok(true)));
+}
+
+fn holds(sim: &Sim<Four>, reg: u32, number: i64) -> bool {
+    sim.reg(reg) == Some(Tagged::Clear(number))
+}
+
+/// Whether the registers 0, 1 and 2 hold these numbers once the code is over.
+fn stands(alloc: Global, code: &WideCode<Four>, wanted: (i64, i64, i64)) -> Result<bool, SimErr> {
+    let mut host = MemHost::new(alloc, b"")?;
+    let mut sim = Sim::load(alloc, code)?;
+    sim.run(&mut host, 1000)?;
+    let (first, second, third) = wanted;
+    Ok(sim.finished() && holds(&sim, 0, first) && holds(&sim, 1, second) && holds(&sim, 2, third))
+}
+
+fn at_end(alloc: Global, code: RawCode, wanted: (i64, i64, i64)) -> Result<bool, SimErr> {
+    match code.text_lines() {
+        Some(_) => match WideCode::<Four>::validate(alloc, code) {
+            Ok(code) => stands(alloc, &code, wanted),
+            Err(_) => Err(SimErr::NoMemory),
+        },
+        None => Err(SimErr::NoMemory),
+    }
+}
+
+/// Whether a second word of these operations leaves the registers so, which held 5, 0 and 0 before it.
+fn last_word(
+    alloc: Global,
+    ops: ((u32, Step), (u32, Step)),
+    wanted: (i64, i64, i64),
+) -> Result<bool, SimErr> {
+    let words = pairs(alloc, &[((1, number(0, 5)), (2, number(1, 0))), ops])?;
+    let main = main_of(alloc, 0, words)?;
+    at_end(alloc, code_of(alloc, main)?, wanted)
+}
+
+fn ends_of_words(alloc: Global) -> Result<bool, SimErr> {
+    let divide = (3, Step::Plain(quotient(Size::Eight, 2, 0, 1)));
+    Ok(
+        last_word(alloc, ((3, Step::Give(0)), (4, number(2, 7))), (5, 0, 7))?
+            && last_word(alloc, ((4, number(0, 8)), divide), (8, 0, 0))?
+            && last_word(alloc, (divide, (4, number(0, 8))), (5, 0, 0))?,
+    )
+}
+
+#[test]
+fn registers_keep_what_the_last_word_wrote(rt: HostRuntime) {
+    assert!(rt; matches!(ends_of_words(rt.alloc()), Ok(true)));
+}
+
+fn ends_in_main(alloc: Global) -> Result<bool, SimErr> {
+    at_end(alloc, two_calls(alloc)?, (5, 8, 0))
+}
+
+#[test]
+fn behind_its_end_the_machine_shows_the_registers_of_main(rt: HostRuntime) {
+    assert!(rt; matches!(ends_in_main(rt.alloc()), Ok(true)));
 }

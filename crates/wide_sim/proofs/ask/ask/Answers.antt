@@ -15,7 +15,7 @@ loop-i-init g c = record {
 pub returns-in-Err-clause-err : goal.returns-in-Err-clause-err
 returns-in-Err-clause-err g c =
     let i = c.loop-i.invariant in
-    some_step c.loop-i.plan c.args.plan.now c.loop-i.i _ (g.H.Host.world c.args.host.now) (g.H.Host.world c.loop-i.host) (omega (arith, i.len, c.loop-i-test.true)) i.len i.rest i.asked _ c.in-Err.ensures.err
+    some_step c.loop-i.plan c.args.plan.now c.loop-i.i _ (g.H.Host.world c.args.host.now) (g.H.Host.world c.loop-i.host) (omega (arith, i.len, c.loop-i-test.true)) i.len i.rest i.asked _ c.in-Err.ensures.asks c.requires c.in-Err.ensures.err
 
 pub loop-i-preserved : goal.loop-i-preserved
 loop-i-preserved g c =

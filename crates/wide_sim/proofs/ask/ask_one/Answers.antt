@@ -24,6 +24,7 @@ pub returns-in_default : goal.returns-in_default
 returns-in_default g c = record {
   ok = others_asked c.args.effect (g.H.Host.world c.args.host.now) c.in_default.not-Take c.in_default.not-PutByte c.in_default.not-PutNumber;
   err = tt;
+  asks = tt;
   quiet = λ quiet. refl;
   cause = search rules;
   still_sure = λ s. s;

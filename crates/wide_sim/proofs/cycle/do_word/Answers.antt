@@ -1,4 +1,4 @@
-use Rattle.std.proofs.Common.{◌∙◌, List, subst, ap, refl, pos, length, take}
+use Rattle.std.proofs.Common.{◌∙◌, List, subst, ap, refl, pos, length, take, arith}
 use Rattle.wide_core.specs.declared.code.Tagged.TheVariants.{Clear}
 use Rattle.wide_core.specs.Word.{effects}
 use Rattle.wide_sim.specs.Cycles.{scope_at}
@@ -6,6 +6,7 @@ use Rattle.wide_sim.specs.Site.{around, room_at}
 use Rattle.wide_sim.specs.Store.{held}
 use Rattle.wide_sim.proofs.Does.{all_take, breaks_word, does_word, plan_fits, turn_calls, turn_args, turn_quiet}
 use Rattle.wide_sim.proofs.Asks.{nothing_printed}
+use Rattle.wide_sim.proofs.Once.{asking_few, asking_take}
 use Rattle.wide_sim.proofs.Turns.{all_planned_fit}
 use Rattle.wide_sim.specs.Effects.{before_report, text}
 use Rattle.wide_sim.specs.Fits.{planned_fits}
@@ -18,6 +19,14 @@ use Rattle.wide_sim.proofs.cycle.do_word.Goals as goal
 pub prepare-requires-clause-args : goal.prepare-requires-clause-args
 prepare-requires-clause-args g c =
     turn_args (length c.args.values.now.regs) (length c.args.values.now.slots) (take (length c.args.ops.now) c.plan_word.new.plan) c.turn_of-turn.result c.turn_of-turn.ensures c.plan_word.ensures.args
+
+pub ask-requires : goal.ask-requires
+ask-requires g c =
+    let effects = take (length c.args.ops.now) c.plan_word.new.plan in
+    let fewer = asking_take c.before_report-count.result effects in
+    let few = asking_few (around c.args.site.now c.args.memory.now) (held (Clear (pos 0)) c.args.values.now) effects c.args.ops.now c.plan_word.ensures.effects in
+    let once = c.requires.once in
+    omega arith
 
 pub prepare-requires-clause-calls : goal.prepare-requires-clause-calls
 prepare-requires-clause-calls g c =
@@ -40,7 +49,7 @@ returns-in-Ok-ask-clause-ok g c =
     (subst (λ n. IsNext (length c.args.values.now.regs) c.args.site.now.funcs n c.args.at (held (Clear (pos 0)) c.args.values.now) c.turn_of-turn.result c.in-Ok.next) c.next_base.ensures
     (subst (λ (fs : List WideFunc). IsNext (length c.args.values.now.regs) fs c.next_base.result c.args.at (held (Clear (pos 0)) c.args.values.now) c.turn_of-turn.result c.in-Ok.next) c.funcs.ensures
     (subst (λ r. IsNext r c.funcs.result.now c.next_base.result c.args.at (held (Clear (pos 0)) c.args.values.now) c.turn_of-turn.result c.in-Ok.next) c.len-regs.ensures c.in-Ok.ensures.next))))
-    c.in-Ok-ask.ensures.ok c.write_effects.ensures.places c.write_effects.ensures.memory
+    c.in-Ok-ask.ensures.ok c.write_effects.ensures.places c.write_effects.ensures.memory c.before_report-count.result refl
 
 pub returns-in-Err-ask-clause-broken : goal.returns-in-Err-ask-clause-broken
 returns-in-Err-ask-clause-broken g c =

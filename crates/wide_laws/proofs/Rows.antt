@@ -1,0 +1,103 @@
+-- Words and cycles of small code, worked out.
+use Rattle.std.proofs.Common.{◌≡◌, ℕ, Bool, true, false, List, [], ◌∷◌, Some, pos, refl}
+use Rattle.std.specs.Prelude.{codes}
+use Rattle.ib_meaning.specs.declared.place.Place.{Place}
+use Rattle.ib_meaning.specs.Agreement.{More, Over, Returned, Meaning}
+use Rattle.ib_meaning.specs.Machine.{means}
+use Rattle.ib_base.specs.declared.integers.Width.TheVariants.{W4}
+use Rattle.ib_base.specs.Integers.{wrapped}
+use Rattle.ib_act.specs.declared.act.Size.TheVariants.{Eight}
+use Rattle.ib_act.specs.declared.act.Act.TheVariants.{Const, Mul, PutNumber}
+use Rattle.machine_desc.specs.Machine.{four_latency}
+use Rattle.wide_core.specs.declared.code.Loc.TheVariants.{Reg}
+use Rattle.wide_core.specs.declared.code.Tagged.TheVariants.{Clear}
+use Rattle.wide_core.specs.declared.code.WideAct.{WideAct}
+use Rattle.wide_core.specs.declared.code.WideAct.TheVariants.{Do, Branch, Return}
+use Rattle.wide_core.specs.declared.code.WideOp.{WideOp}
+use Rattle.wide_core.specs.declared.code.Word.{Word}
+use Rattle.wide_core.specs.declared.code.WideFunc.{WideFunc}
+use Rattle.wide_core.specs.declared.code.RawCode.{RawCode}
+use Rattle.wide_core.specs.Operation.{effect_on}
+use Rattle.wide_core.specs.Word.{after_word}
+use Rattle.wide_core.specs.Meaning.{Wide, cycle_by, end_by, entered}
+
+abbrev home : Place
+home = record { line = 1; col = 1 }
+
+abbrev early : ℕ → WideAct → WideOp
+early number act = record { number = number; home = home; flagged = true; act = act }
+
+abbrev plain : ℕ → WideAct → WideOp
+plain number act = record { number = number; home = home; flagged = false; act = act }
+
+abbrev word : List WideOp → Word
+word ops = record { ops = ops }
+
+-- a `main` of these words
+abbrev code_of : List Word → RawCode
+code_of words = record { image = []; funcs = record { name = codes "main"; params = []; frame = 0; slots = 0; words = words } ∷ [] }
+
+-- as it begins, over a memory
+abbrev start : RawCode → List ℕ → Wide
+start code memory = record {
+  word = record { call = entered code 0 4096 []; waiting = []; memory = memory };
+  ready = record { top = λ loc. 0; waiting = [] };
+  now = 0;
+}
+
+-- r0 is 0 and r1 is 1. The second word branches to the fourth word if r0 is not 0 and to the third if r1 is not; then it
+-- would print, and set r1
+abbrev two_branches : WideAct → RawCode
+two_branches last =
+    code_of (
+    word (early 1 (Do (Const 0 (pos 0))) ∷ early 2 (Do (Const 1 (pos 1))) ∷ [])
+    ∷ word (plain 3 (Branch 0 3) ∷ plain 4 (Branch 1 2) ∷ plain 5 (Do (PutNumber 1)) ∷ early 6 last ∷ [])
+    ∷ word (plain 7 (Return (Some 1)) ∷ [])
+    ∷ word (plain 8 (Return (Some 0)) ∷ [])
+    ∷ [])
+
+abbrev meaning : (one : Bool) → RawCode → List ℕ → Meaning
+meaning one code memory = means (cycle_by one four_latency code) (start code memory)
+
+-- where a word may leave early, nothing behind the branch that is taken is done
+leaves_early : (memory : List ℕ) → meaning false (two_branches (Do (Const 1 (pos 9)))) memory [] 3 ≡ Over (Returned (wrapped W4 (pos 1))) [] []
+unfolding after_word effect_on
+leaves_early memory = refl
+
+-- and what would have been written there is not waited for: not after 2 cycles, but after 3
+not_yet : (memory : List ℕ) → meaning false (two_branches (Do (Mul Eight 1 1 1))) memory [] 2 ≡ More [] []
+unfolding after_word effect_on
+not_yet memory = refl
+
+sets_no_time : (memory : List ℕ) → meaning false (two_branches (Do (Mul Eight 1 1 1))) memory [] 3 ≡ Over (Returned (wrapped W4 (pos 1))) [] []
+unfolding after_word effect_on
+sets_no_time memory = refl
+
+-- with one place for control all that stands in the word is done: here r1 is ready 4 cycles later, and printed
+abbrev one_branch : RawCode
+one_branch =
+    code_of (
+    word (early 1 (Do (Const 0 (pos 0))) ∷ early 2 (Do (Const 1 (pos 1))) ∷ [])
+    ∷ word (plain 4 (Branch 1 2) ∷ early 6 (Do (Mul Eight 1 1 1)) ∷ [])
+    ∷ word (plain 7 (Return (Some 1)) ∷ early 8 (Do (Const 2 (pos 7))) ∷ [])
+    ∷ [])
+
+waits : (memory : List ℕ) → meaning true one_branch memory [] 5 ≡ More [] []
+unfolding after_word effect_on
+waits memory = refl
+
+-- the machine stands where `main` returns: behind its end r2 holds what its last word wrote, and r0 what it held
+abbrev at_return : List ℕ → Wide
+at_return memory = record {
+  word = record { call = record (entered one_branch 0 4096 []) { rest = word (plain 7 (Return (Some 1)) ∷ early 8 (Do (Const 2 (pos 7))) ∷ []) ∷ [] }; waiting = []; memory = memory };
+  ready = record { top = λ loc. 0; waiting = [] };
+  now = 5;
+}
+
+written_last : (memory : List ℕ) → (end_by true four_latency one_branch (at_return memory) []).word.call.places (Reg 2) ≡ Clear (pos 7)
+unfolding after_word effect_on
+written_last memory = refl
+
+kept : (memory : List ℕ) → (end_by true four_latency one_branch (at_return memory) []).word.call.places (Reg 0) ≡ Clear (pos 0)
+unfolding after_word effect_on
+kept memory = refl

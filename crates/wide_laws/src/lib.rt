@@ -1,0 +1,2 @@
+//! Laws of the machine of long words: worked words and cycles.
+#![tactic(auto)]

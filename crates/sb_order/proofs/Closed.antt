@@ -2,11 +2,11 @@
 use Rattle.std.proofs.Common.{◌≡◌, ℕ, zero, suc, ◌+◌, ◌<◌, ◌≤◌, Bool, true, false, ◌&&◌, ◌||◌, not, ◌==◌, nat_le, nat_lt, List, [], ◌∷◌, true≢false, Option, Some, None, refl, sym, ap, subst, if◌then◌else◌, arith}
 use Rattle.std.proofs.lemmas.Bool.Decides.{nat_tests}
 use Rattle.machine_desc.specs.declared.machine.OpClass.{OpClass}
-use Rattle.wide_core.specs.Classes.{class_of}
-use Rattle.sb_order.specs.Uses.{reads, in_list}
-use Rattle.sb_order.specs.Flat.{at_exits, is_target, Every, Nil, Cons}
-use Rattle.sb_order.specs.Superblock.{written}
-use Rattle.sb_order.specs.Edges.{Item, apart, is_control, is_member, no_member, unwritten, meet, Row, rows}
+use Rattle.wide_core.specs.Classes.{class_of, is_control}
+use Rattle.wide_core.specs.Uses.{reads, in_list, is_target, written}
+use Rattle.wide_core.specs.Flat.{at_exits}
+use Rattle.wide_core.specs.Every.{Every, Nil, Cons}
+use Rattle.sb_order.specs.Edges.{Item, apart, is_member, no_member, unwritten, meet, Row, rows}
 use Rattle.sb_order.specs.Schedule.{Spot, holds_at, kept, distinct, kept_from, edges_kept}
 
 pub eq_same : (a b : ℕ) → (a == b) ≡ true → a ≡ b

@@ -5,18 +5,21 @@ use Rattle.machine_desc.specs.declared.machine.OpClass.{OpClass}
 use Rattle.wide_core.specs.declared.code.WideAct.{WideAct}
 use Rattle.wide_core.specs.declared.code.WideAct.TheVariants.{Jump, Branch, BranchZero, Call, Return}
 use Rattle.wide_core.specs.declared.code.WideOp.{WideOp}
-use Rattle.wide_core.specs.Classes.{is_register}
+use Rattle.wide_core.specs.Classes.{is_register, ends, traps, is_control}
 use Rattle.wide_core.specs.Operation.{Effect, Nothing, Write, Save, Take, Print, Go, Leave, Stop}
 use Rattle.wide_core.specs.Word.{Flow, Outcome}
-use Rattle.sb_order.specs.Flat.{one_effect, goes_on, flat, ends, Every, Nil, Cons}
-use Rattle.sb_order.specs.Superblock.{written, traps, needs_check, check_of, checked, plain, Rises, RisesBy}
-use Rattle.sb_order.specs.Edges.{Item, Known, items, learn, at_head, is_control, is_member}
+use Rattle.wide_core.specs.Flat.{one_effect, goes_on, flat}
+use Rattle.wide_core.specs.Every.{Every, Nil, Cons}
+use Rattle.wide_core.specs.Uses.{written}
+use Rattle.wide_core.specs.Accesses.{Known, learn, at_head}
+use Rattle.sb_order.specs.Superblock.{needs_check, check_of, checked, plain, Rises, RisesBy}
+use Rattle.sb_order.specs.Edges.{Item, items, is_member}
 use Rattle.sb_order.specs.Schedule.{unflagged, with_struck, Spot, earlier, sorted, cut, cut_behind, SameEvent}
 use Rattle.sb_order.specs.Order.{IsOperation, IsSource, EndsLast, TheLast, NotLast, FlatInvisible}
 use Rattle.sb_order.proofs.Closed.{AllClosed, AllNone, AllMore, all_closed}
 use Rattle.sb_order.proofs.Joined.{joined_scheduled}
 use Rattle.sb_order.proofs.Sorted.{Clo, put_item, sorted_items, sorted_ops, earlier_is, not_before, every_put, every_sorted}
-use Rattle.sb_order.proofs.Suits.{Suits, AsNothing, AsWrite, AsSave, AsTake, AsPrint}
+use Rattle.wide_laws.proofs.Suits.{Suits, AsNothing, AsWrite, AsSave, AsTake, AsPrint}
 use Rattle.sb_order.proofs.Holds.{suits}
 use Rattle.sb_order.proofs.Speculation.{ops_items, edges, sorted_event}
 

@@ -18,14 +18,13 @@ use Rattle.wide_core.specs.Tagged.{number_of, evaluated}
 use Rattle.wide_core.specs.Places.{put}
 use Rattle.wide_core.specs.Operation.{sources, Effect, Nothing, Write, Save, Take, Print, Go, Leave, Stop, effect_by, effect_on, shown}
 use Rattle.wide_core.specs.Word.{Flow, apply}
-use Rattle.sb_order.specs.Uses.{writes_now}
-use Rattle.sb_order.specs.Flat.{around, one_effect, is_target}
-use Rattle.sb_order.specs.Superblock.{written}
-use Rattle.sb_order.specs.Edges.{Root, Number, Frame, Reaching, Base, Known, given_by, learn, same_root, disjoint}
+use Rattle.wide_core.specs.Uses.{writes_now, is_target, written}
+use Rattle.wide_core.specs.Flat.{around, one_effect}
+use Rattle.wide_core.specs.Accesses.{Root, Number, Frame, Reaching, Base, Known, given_by, learn, same_root, disjoint}
 use Rattle.sb_order.specs.Order.{InRange, IsOperation}
 use Rattle.sb_order.proofs.Closed.{eq_same, both}
-use Rattle.sb_order.proofs.Memory.{kept_length, AreApart, FirstBelow, FirstAbove, IsNear, far_apart}
-use Rattle.sb_order.proofs.Suits.{Suits, AsWrite, AsTake, suits_on}
+use Rattle.mem_laws.proofs.Stores.{kept_length, AreApart, FirstBelow, FirstAbove, IsNear, far_apart}
+use Rattle.wide_laws.proofs.Suits.{Suits, AsWrite, AsTake, suits_on}
 
 -- ---- what is known of a register
 

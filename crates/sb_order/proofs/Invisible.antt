@@ -3,9 +3,12 @@ use Rattle.std.proofs.Common.{◌≡◌, ℕ, ◌<◌, ◌≤◌, Bool, true, fa
 use Rattle.std.proofs.lemmas.Bool.Decides.{nat_tests}
 use Rattle.machine_desc.specs.declared.machine.OpClass.{OpClass}
 use Rattle.wide_core.specs.Word.{Through}
-use Rattle.sb_order.specs.Uses.{reads, in_list}
-use Rattle.sb_order.specs.Flat.{flat, run_words, at_exits, joined, Every, Nil, Cons}
-use Rattle.sb_order.specs.Edges.{Item, Known, items, learn, base_in, at_head, apart, is_control, is_member}
+use Rattle.wide_core.specs.Uses.{reads, in_list}
+use Rattle.wide_core.specs.Flat.{flat, run_words, at_exits, joined}
+use Rattle.wide_core.specs.Every.{Every, Nil, Cons}
+use Rattle.wide_core.specs.Accesses.{Known, learn, base_in, at_head}
+use Rattle.wide_core.specs.Classes.{is_control}
+use Rattle.sb_order.specs.Edges.{Item, items, apart, is_member}
 use Rattle.sb_order.specs.Schedule.{Spot, with_struck, earlier, sorted, cut, cut_behind, joined_to, words_of, scheduled}
 use Rattle.sb_order.specs.Order.{IsOperation, FlatInvisible, Invisible}
 use Rattle.sb_order.proofs.Closed.{eq_same, eq_refl, true_lt, AllClosed, AllNone, AllMore, all_closed}

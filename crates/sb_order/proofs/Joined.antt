@@ -1,7 +1,7 @@
 -- The words hold the sorted items, cut behind the last control operation, in order.
 use Rattle.std.proofs.Common.{◌≡◌, ℕ, Bool, true, false, ◌==◌, List, [], ◌∷◌, refl, ap, ◌∙◌, if◌then◌else◌}
 use Rattle.wide_core.specs.declared.code.WideOp.{WideOp}
-use Rattle.sb_order.specs.Flat.{joined}
+use Rattle.wide_core.specs.Flat.{joined}
 use Rattle.sb_order.specs.Schedule.{Spot, joined_to, words_of, cut, sorted, with_struck, scheduled}
 
 module _ (spot : ℕ → Spot) where

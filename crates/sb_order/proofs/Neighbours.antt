@@ -20,14 +20,14 @@ use Rattle.wide_core.specs.Tagged.{number_of, least_mark, evaluated}
 use Rattle.wide_core.specs.Places.{put}
 use Rattle.wide_core.specs.Operation.{reg_if, sources, target, Exit, Effect, Nothing, Write, Save, Take, Print, Go, Leave, Stop, first_of, own, is_zero, writes, does_act, does, keeps_mark, shown, Around, effect_by, effect_on}
 use Rattle.wide_core.specs.Word.{Flow, apply, byte_from, behind_byte}
-use Rattle.sb_order.specs.Uses.{reads, is_item, in_list, opt_list}
-use Rattle.sb_order.specs.Flat.{around, one_effect, is_target, at_exit, at_exits, flat}
-use Rattle.sb_order.specs.Superblock.{written}
-use Rattle.sb_order.specs.Edges.{Base, Known, Item, base_in, store_of, load_of, apart, apart_at, same_root, disjoint, is_member}
+use Rattle.wide_core.specs.Uses.{reads, is_item, in_list, opt_list, is_target, written}
+use Rattle.wide_core.specs.Flat.{around, one_effect, at_exit, at_exits, flat}
+use Rattle.wide_core.specs.Accesses.{Base, Known, base_in, store_of, load_of, apart_at, same_root, disjoint}
+use Rattle.sb_order.specs.Edges.{Item, apart, is_member}
 use Rattle.sb_order.specs.Order.{InRange, IsOperation, Free}
 use Rattle.sb_order.proofs.Closed.{eq_same, eq_refl, is_the, target_is, both}
-use Rattle.sb_order.proofs.Memory.{kept, loaded_kept}
-use Rattle.sb_order.proofs.Suits.{Suits, AsWrite, AsTake, AsGo, written_on}
+use Rattle.mem_laws.proofs.Stores.{kept, loaded_kept}
+use Rattle.wide_laws.proofs.Suits.{Suits, AsWrite, AsTake, AsGo, written_on}
 use Rattle.sb_order.proofs.Holds.{Holds, far_of, writes_written, put_other, other_than, suits}
 use Rattle.sb_order.proofs.Swap.{Like, like_sym, Apart, swap_apart}
 

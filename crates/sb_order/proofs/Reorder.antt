@@ -3,10 +3,11 @@ use Rattle.std.proofs.Common.{◌≡◌, ℕ, ◌≤◌, Bool, true, false, ◌|
 use mathlib.Core.Path.{fun_ext}
 use Rattle.wide_core.specs.declared.code.WideOp.{WideOp}
 use Rattle.wide_core.specs.Word.{Flow, apply}
-use Rattle.sb_order.specs.Uses.{reads, in_list}
-use Rattle.sb_order.specs.Flat.{one_effect, flat, is_target, Every, Nil, Cons}
-use Rattle.sb_order.specs.Superblock.{written}
-use Rattle.sb_order.specs.Edges.{Known, Item, items, base_in, learn}
+use Rattle.wide_core.specs.Uses.{reads, in_list, is_target, written}
+use Rattle.wide_core.specs.Flat.{one_effect, flat}
+use Rattle.wide_core.specs.Every.{Every, Nil, Cons}
+use Rattle.wide_core.specs.Accesses.{Known, base_in, learn}
+use Rattle.sb_order.specs.Edges.{Item, items}
 use Rattle.sb_order.specs.Order.{IsOperation, Free, Keeps, Empty, Bring}
 use Rattle.sb_order.proofs.Closed.{eq_refl, is_the}
 use Rattle.sb_order.proofs.Sorted.{false_by}

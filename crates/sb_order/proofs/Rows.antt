@@ -11,11 +11,13 @@ use Rattle.wide_core.specs.declared.code.WideOp.{WideOp}
 use Rattle.std.specs.Int.Signed.{le_z_yes}
 use Rattle.machine_desc.specs.Laws.{four_is_table}
 use Rattle.wide_core.specs.Word.{Flow, Through}
-use Rattle.sb_order.specs.Flat.{run_words, Nil, Cons}
+use Rattle.wide_core.specs.Flat.{run_words}
+use Rattle.wide_core.specs.Every.{Nil, Cons}
+use Rattle.wide_core.specs.Accesses.{at_head}
 use Rattle.sb_order.specs.Superblock.{Plain, plain, checked, RisesNot, RisesBy}
 use Rattle.sb_order.specs.Order.{IsSource, IsSuperblock, TheLast, NotLast, Invisible}
 use Rattle.sb_order.proofs.Invisible.{invisible}
-use Rattle.sb_order.specs.Edges.{Item, items, at_head, delays}
+use Rattle.sb_order.specs.Edges.{Item, items, delays}
 use Rattle.sb_order.specs.Schedule.{Starts, SameEvent, Spot, is_legal, is_tight, with_struck, scheduled}
 
 abbrev here : Place

@@ -12,18 +12,19 @@ use Rattle.wide_core.specs.declared.code.Tagged.TheVariants.{Clear, Mark}
 use Rattle.wide_core.specs.declared.code.WideAct.{WideAct}
 use Rattle.wide_core.specs.declared.code.WideAct.TheVariants.{Do, Spill, Reload, Check, Jump, Branch, BranchZero, Call, Return}
 use Rattle.wide_core.specs.declared.code.WideOp.{WideOp}
-use Rattle.wide_core.specs.Classes.{is_register}
+use Rattle.wide_core.specs.Classes.{is_register, ends, traps}
 use Rattle.wide_core.specs.Tagged.{least_mark, number_of, evaluated}
 use Rattle.wide_core.specs.Places.{put}
 use Rattle.wide_core.specs.Operation.{sources, Effect, Nothing, Write, Save, Take, Print, Go, Leave, Stop, first_of, own, is_zero, writes, does_act, does, shown, Around, effect_on}
 use Rattle.wide_core.specs.Word.{Flow, apply, byte_from, behind_byte, saved}
-use Rattle.sb_order.specs.Uses.{reads, writes_now, is_item, in_list}
-use Rattle.sb_order.specs.Flat.{around, one_effect, goes_on, flat, is_target, ends, at_exits, Every, Nil, Cons}
-use Rattle.sb_order.specs.Superblock.{last_number, Plain, ByFault, plain_apply, plain_on, plain_by, plain, written, traps, put_at, settles, needs_check, check_of, checks_of, checked, needs, Rises, RisesNot, RisesBy}
+use Rattle.wide_core.specs.Uses.{reads, writes_now, is_item, in_list, is_target, written}
+use Rattle.wide_core.specs.Flat.{around, one_effect, goes_on, flat, at_exits}
+use Rattle.wide_core.specs.Every.{Every, Nil, Cons}
+use Rattle.sb_order.specs.Superblock.{last_number, Plain, ByFault, plain_apply, plain_on, plain_by, plain, put_at, settles, needs_check, check_of, checks_of, checked, needs, Rises, RisesNot, RisesBy}
 use Rattle.sb_order.specs.Schedule.{Matches, SameEvent, AtEnd, AtExit, AtReturn, AtFault}
 use Rattle.sb_order.specs.Order.{IsSource}
 use Rattle.sb_order.proofs.Closed.{eq_refl, both}
-use Rattle.sb_order.proofs.Suits.{Suits, AsNothing, AsWrite, AsSave, AsTake, AsPrint, AsGo, suits_does}
+use Rattle.wide_laws.proofs.Suits.{Suits, AsNothing, AsWrite, AsSave, AsTake, AsPrint, AsGo, suits_does}
 use Rattle.sb_order.proofs.Holds.{value_either, writes_written}
 use Rattle.sb_order.proofs.Neighbours.{sources_read}
 use Rattle.sb_order.proofs.Settle.{Later, IsClear, IsIt, or_right, or_left, needs_read, needs_exit, needs_behind, Behind, BehindNone, BehindOne, RegisterWrites, register_writes, by_tags, in_front, later_put, settle}

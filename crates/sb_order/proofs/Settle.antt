@@ -16,11 +16,11 @@ use Rattle.wide_core.specs.Tagged.{comes_before, first_mark, least_mark, number_
 use Rattle.wide_core.specs.Places.{put}
 use Rattle.wide_core.specs.Operation.{reg_of, sources, target, Effect, Write, Stop, first_of, own, writes, does, keeps_mark, shown, Around, effect_by, effect_on}
 use Rattle.wide_core.specs.Word.{Flow, Stopped, apply}
-use Rattle.sb_order.specs.Uses.{reads, is_item, in_list}
-use Rattle.sb_order.specs.Flat.{around, one_effect, goes_on, flat, is_target, at_exits}
-use Rattle.sb_order.specs.Superblock.{written, put_at, meets, settles, needs}
+use Rattle.wide_core.specs.Uses.{reads, is_item, in_list, is_target, written}
+use Rattle.wide_core.specs.Flat.{around, one_effect, goes_on, flat, at_exits}
+use Rattle.sb_order.specs.Superblock.{put_at, meets, settles, needs}
 use Rattle.sb_order.proofs.Closed.{eq_same, eq_refl, true_lt}
-use Rattle.sb_order.proofs.Suits.{always_writes, register_does}
+use Rattle.wide_laws.proofs.Suits.{always_writes, register_does}
 use Rattle.sb_order.proofs.Neighbours.{sources_read}
 use Rattle.sb_order.proofs.Swap.{SameWorld}
 

@@ -2,9 +2,9 @@
 use Rattle.std.proofs.Common.{◌≡◌, ℕ, ◌<◌, ◌≤◌, Bool, true, false, ◌==◌, nat_lt, List, [], ◌∷◌, ◌++◌, map, refl, sym, ap, ◌∙◌, subst, if◌then◌else◌, arith}
 use Rattle.machine_desc.specs.declared.machine.OpClass.{OpClass}
 use Rattle.wide_core.specs.declared.code.WideOp.{WideOp}
-use Rattle.sb_order.specs.Uses.{reads, in_list}
-use Rattle.sb_order.specs.Flat.{at_exits, is_target, Every, Nil, Cons}
-use Rattle.sb_order.specs.Superblock.{written}
+use Rattle.wide_core.specs.Uses.{reads, in_list, is_target, written}
+use Rattle.wide_core.specs.Flat.{at_exits}
+use Rattle.wide_core.specs.Every.{Every, Nil, Cons}
 use Rattle.sb_order.specs.Edges.{Item, apart, is_member}
 use Rattle.sb_order.specs.Schedule.{Spot, earlier, insert, sorted, edges_kept}
 use Rattle.sb_order.specs.Order.{Free, Keeps, Empty, Bring}

@@ -9,14 +9,16 @@ use Rattle.wide_core.specs.declared.code.Tagged.{Tagged}
 use Rattle.wide_core.specs.declared.code.Tagged.TheVariants.{Clear, Mark}
 use Rattle.wide_core.specs.declared.code.WideAct.TheVariants.{Check}
 use Rattle.wide_core.specs.declared.code.WideOp.{WideOp}
-use Rattle.wide_core.specs.Classes.{is_register}
+use Rattle.wide_core.specs.Classes.{is_register, traps}
 use Rattle.wide_core.specs.Tagged.{least_mark, number_of, evaluated}
 use Rattle.wide_core.specs.Operation.{sources, target, Write, own, does, keeps_mark, shown, effect_on}
 use Rattle.wide_core.specs.Word.{Flow, Outcome, Stopped, apply}
-use Rattle.sb_order.specs.Uses.{is_item}
-use Rattle.sb_order.specs.Flat.{around, one_effect, goes_on, flat, Every, Nil, Cons}
-use Rattle.sb_order.specs.Superblock.{Plain, Event, plain, written, traps, put_at, settles, needs_check, check_of, checked, Rises, RisesNot, RisesBy}
-use Rattle.sb_order.specs.Edges.{Item, Known, items, learn, at_head}
+use Rattle.wide_core.specs.Uses.{is_item, written}
+use Rattle.wide_core.specs.Flat.{around, one_effect, goes_on, flat}
+use Rattle.wide_core.specs.Every.{Every, Nil, Cons}
+use Rattle.wide_core.specs.Accesses.{Known, learn, at_head}
+use Rattle.sb_order.specs.Superblock.{Plain, Event, plain, put_at, settles, needs_check, check_of, checked, Rises, RisesNot, RisesBy}
+use Rattle.sb_order.specs.Edges.{Item, items}
 use Rattle.sb_order.specs.Schedule.{unflagged, with_struck, Spot, every, has_room, edges_kept, is_legal, sorted, SameEvent, AtExit, AtReturn, AtFault, Starts}
 use Rattle.sb_order.specs.Order.{IsOperation, IsSource, IsSuperblock}
 use Rattle.sb_order.proofs.Closed.{both}

@@ -6,7 +6,7 @@ use Rattle.wide_core.specs.declared.code.Tagged.{Tagged}
 use Rattle.wide_core.specs.declared.code.WideOp.{WideOp}
 use Rattle.wide_core.specs.Operation.{Exit, Effect, Nothing, Write, Save, Take, Print, Go, Leave, Stop}
 use Rattle.wide_core.specs.Word.{Flow, Outcome, Through, Gone, Left, Stopped, apply}
-use Rattle.sb_order.specs.Flat.{at_exit, one_effect, goes_on, flat}
+use Rattle.wide_core.specs.Flat.{at_exit, one_effect, goes_on, flat}
 
 -- ---- the same outcome, but for registers that are not live where control goes
 

@@ -6,14 +6,16 @@ use Rattle.wide_core.specs.declared.code.WideOp.{WideOp}
 use Rattle.wide_core.specs.Classes.{is_register}
 use Rattle.wide_core.specs.Operation.{sources, Effect}
 use Rattle.wide_core.specs.Word.{Flow, apply}
-use Rattle.sb_order.specs.Flat.{around, one_effect, Every, Nil, Cons}
-use Rattle.sb_order.specs.Edges.{Item, Known, items, learn, at_head}
+use Rattle.wide_core.specs.Flat.{around, one_effect}
+use Rattle.wide_core.specs.Every.{Every, Nil, Cons}
+use Rattle.wide_core.specs.Accesses.{Known, learn, at_head}
+use Rattle.sb_order.specs.Edges.{Item, items}
 use Rattle.sb_order.specs.Schedule.{Spot, with_struck, sorted, cut, words_of, scheduled, is_legal}
 use Rattle.sb_order.specs.Order.{IsSuperblock}
 use Rattle.sb_order.specs.Turns.{NextTo, Sits, SitsNone, SitsOp, SitsAll, SitsNoWord, SitsWord, through, Turns, TurnsNone, TurnsOp, TurnsAll, TurnsNoWord, TurnsWord}
 use Rattle.sb_order.proofs.Closed.{both, all_closed}
 use Rattle.sb_order.proofs.Sorted.{sorted_items, sorted_ops, keeps_legal}
-use Rattle.sb_order.proofs.Suits.{Suits}
+use Rattle.wide_laws.proofs.Suits.{Suits}
 use Rattle.sb_order.proofs.Holds.{Holds, learned, suits}
 use Rattle.sb_order.proofs.Neighbours.{Both, stays, Stored, stored_on, not_true}
 use Rattle.sb_order.proofs.Reorder.{Truthful, truthful_items, reorder}

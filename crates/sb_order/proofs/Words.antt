@@ -4,16 +4,17 @@ use Rattle.wide_core.specs.declared.code.Loc.TheVariants.{Reg}
 use Rattle.wide_core.specs.declared.code.WideAct.{WideAct}
 use Rattle.wide_core.specs.declared.code.WideAct.TheVariants.{Jump, Branch, BranchZero, Call}
 use Rattle.wide_core.specs.declared.code.WideOp.{WideOp}
-use Rattle.wide_core.specs.Classes.{is_register}
+use Rattle.wide_core.specs.Classes.{is_register, can_go, is_control}
 use Rattle.wide_core.specs.Operation.{sources, Exit, Effect, Nothing, Write, Save, Take, Print, Go, Leave, Stop}
 use Rattle.wide_core.specs.Word.{Flow, Outcome, Through, Gone, Left, apply, acts, effects}
-use Rattle.sb_order.specs.Uses.{reads, in_list}
-use Rattle.sb_order.specs.Flat.{around, one_effect, goes_on, flat, run_words, can_go, at_exit, at_exits, Every, Nil, Cons}
-use Rattle.sb_order.specs.Superblock.{written}
-use Rattle.sb_order.specs.Edges.{Item, Known, learn, base_in, apart, is_control, is_member}
+use Rattle.wide_core.specs.Uses.{reads, in_list, written}
+use Rattle.wide_core.specs.Flat.{around, one_effect, goes_on, flat, run_words, at_exit, at_exits}
+use Rattle.wide_core.specs.Every.{Every, Nil, Cons}
+use Rattle.wide_core.specs.Accesses.{Known, learn, base_in}
+use Rattle.sb_order.specs.Edges.{Item, apart, is_member}
 use Rattle.sb_order.specs.Order.{IsOperation}
 use Rattle.sb_order.proofs.Closed.{both}
-use Rattle.sb_order.proofs.Suits.{Suits, AsGo, AsLeave, written_on}
+use Rattle.wide_laws.proofs.Suits.{Suits, AsGo, AsLeave, written_on}
 use Rattle.sb_order.proofs.Holds.{Holds, learned, suits, put_other, writes_written}
 use Rattle.sb_order.proofs.Neighbours.{Both, stays, Stored, stored_on, not_true, exits, spared_other}
 use Rattle.sb_order.proofs.Swap.{SameWorld, world_refl, Like, LikeThrough, LikeGone, LikeLeft, LikeStopped, like_refl}

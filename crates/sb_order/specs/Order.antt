@@ -5,14 +5,15 @@ use Rattle.machine_desc.specs.declared.machine.OpClass.{OpClass}
 use Rattle.machine_desc.specs.Machine.{IsTable}
 use Rattle.ib_act.specs.declared.act.Act.TheVariants.{Const, FrameAddress, Load, Store}
 use Rattle.ib_act.specs.Acts.{IsOffset}
-use Rattle.wide_core.specs.Classes.{is_register}
+use Rattle.wide_core.specs.Classes.{is_register, ends}
 use Rattle.wide_core.specs.declared.code.WideAct.{WideAct}
 use Rattle.wide_core.specs.declared.code.WideAct.TheVariants.{Do}
 use Rattle.wide_core.specs.declared.code.WideOp.{WideOp}
 use Rattle.wide_core.specs.Word.{Flow, Through}
-use Rattle.sb_order.specs.Uses.{reads, in_list, is_item}
-use Rattle.sb_order.specs.Flat.{at_exits, is_target, ends, flat, run_words, joined, Every}
-use Rattle.sb_order.specs.Superblock.{written, Plain, plain, FitsLive, Rises}
+use Rattle.wide_core.specs.Uses.{reads, in_list, is_item, is_target, written}
+use Rattle.wide_core.specs.Flat.{at_exits, flat, run_words, joined}
+use Rattle.wide_core.specs.Every.{Every}
+use Rattle.sb_order.specs.Superblock.{Plain, plain, FitsLive, Rises}
 use Rattle.sb_order.specs.Edges.{Item, apart, is_member}
 use Rattle.sb_order.specs.Schedule.{Spot, is_legal, scheduled, SameEvent, Starts}
 

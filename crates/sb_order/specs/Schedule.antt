@@ -6,12 +6,13 @@ use Rattle.machine_desc.specs.declared.machine.OpClass.TheVariants.{Alu, Mul, Me
 use Rattle.wide_core.specs.declared.code.Loc.TheVariants.{Reg}
 use Rattle.wide_core.specs.declared.code.Tagged.TheVariants.{Clear}
 use Rattle.wide_core.specs.declared.code.WideOp.{WideOp}
-use Rattle.wide_core.specs.Classes.{class_of}
+use Rattle.wide_core.specs.Classes.{class_of, is_control}
 use Rattle.wide_core.specs.Operation.{Exit}
 use Rattle.wide_core.specs.Word.{Flow, Outcome, Through, Gone, Left, Stopped}
-use Rattle.sb_order.specs.Flat.{at_exit}
+use Rattle.wide_core.specs.Flat.{at_exit}
+use Rattle.wide_core.specs.Accesses.{at_head}
 use Rattle.sb_order.specs.Superblock.{Plain, Event, End, ByExit, ByReturn, ByFault, checked, checks_of, needs_check}
-use Rattle.sb_order.specs.Edges.{Item, items, at_head, Row, rows, is_control}
+use Rattle.sb_order.specs.Edges.{Item, items, Row, rows}
 
 -- ---- the items: in place of a struck check its operation without the flag
 

@@ -1,20 +1,18 @@
 -- A superblock's meaning without marks, and the checks that its operations need when they are done early.
 use Rattle.std.specs.Prelude.{◌≡◌, ℕ, suc, Bool, true, false, ◌&&◌, ◌||◌, not, ◌==◌, ◌<◌, List, [], ◌∷◌, ◌++◌, map, Option, Some, None, Result, Ok, Err, if◌then◌else◌, ℤ}
 use Rattle.ib_meaning.specs.declared.fault.FaultKind.{FaultKind}
-use Rattle.ib_act.specs.declared.act.Act.{Act}
-use Rattle.ib_act.specs.declared.act.Act.TheVariants.{Bounds, Div, Rem, Load}
 use Rattle.wide_core.specs.declared.code.Loc.{Loc}
 use Rattle.wide_core.specs.declared.code.Loc.TheVariants.{Reg}
 use Rattle.wide_core.specs.declared.code.WideAct.{WideAct}
-use Rattle.wide_core.specs.declared.code.WideAct.TheVariants.{Do, Check, Call}
+use Rattle.wide_core.specs.declared.code.WideAct.TheVariants.{Check}
 use Rattle.wide_core.specs.declared.code.WideOp.{WideOp}
-use Rattle.wide_core.specs.Classes.{is_register}
+use Rattle.wide_core.specs.Classes.{is_register, traps}
 use Rattle.wide_core.specs.Operation.{Exit, Effect, Write, Save, Take, Print, Go, Leave, Stop, sources, own, does}
 use Rattle.wide_core.specs.Places.{put}
 use Rattle.wide_core.specs.Tagged.{number_of}
 use Rattle.wide_core.specs.Word.{byte_from, behind_byte, saved}
-use Rattle.sb_order.specs.Uses.{reads, writes_now, in_list}
-use Rattle.sb_order.specs.Flat.{at_exits, is_target}
+use Rattle.wide_core.specs.Uses.{reads, in_list, is_target, written}
+use Rattle.wide_core.specs.Flat.{at_exits}
 
 -- ---- in source order, without marks
 
@@ -54,27 +52,6 @@ module _ (base : ℕ) (room : ℕ → Bool) where
   plain (op ∷ ops) s = plain_by op (map s.places (sources op.act)) (own op.act base s.memory room (map s.places (sources op.act))) (plain ops) s
 
 -- ---- the chain and the checks, from the end backwards
-
--- the register that it defines, a call's destination too
-abbrev pub result_of : Option Loc → Option ℕ
-result_of (Some (Reg d)) = Some d
-result_of place = None
-
-abbrev pub written : WideAct → Option ℕ
-written (Call result func next args) = result_of result
-written act = writes_now act
-
-abbrev pub traps_act : Act → Bool
-traps_act (Bounds to from bound) = true
-traps_act (Div size to left right) = true
-traps_act (Rem size to left right) = true
-traps_act (Load width to from offset) = true
-traps_act act = false
-
--- a register operation that may fault
-abbrev pub traps : WideAct → Bool
-traps (Do act) = traps_act act
-traps act = false
 
 -- the set of registers, changed at one
 abbrev pub put_at : Option ℕ → Bool → (ℕ → Bool) → ℕ → Bool

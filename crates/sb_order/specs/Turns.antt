@@ -1,12 +1,11 @@
 -- What allocation needs of the words of a schedule: who stands beside whom, and that nobody feels what another one does.
 use Rattle.std.specs.Prelude.{◌≡◌, ℕ, Bool, true, false, List, [], ◌∷◌, Some}
 use Rattle.wide_core.specs.declared.code.WideOp.{WideOp}
-use Rattle.wide_core.specs.Classes.{is_register}
+use Rattle.wide_core.specs.Classes.{is_register, is_control}
 use Rattle.wide_core.specs.Word.{Flow, apply}
-use Rattle.sb_order.specs.Uses.{reads, in_list}
-use Rattle.sb_order.specs.Flat.{one_effect, at_exits, Every}
-use Rattle.sb_order.specs.Superblock.{written}
-use Rattle.sb_order.specs.Edges.{is_control}
+use Rattle.wide_core.specs.Uses.{reads, in_list, written}
+use Rattle.wide_core.specs.Flat.{one_effect, at_exits}
+use Rattle.wide_core.specs.Every.{Every}
 
 -- b stands behind a in a word: it does not read what a writes, and may be done where a has left
 pub record NextTo (heads : ℕ → ℕ → Bool) (one : Bool) (a b : WideOp) : Type 0 where

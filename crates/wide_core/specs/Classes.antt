@@ -1,9 +1,9 @@
--- The kinds of units that execute operations, and which operations may be flagged.
+-- The kinds of operations: by the units that execute them, by what they may change, and by where control goes behind them.
 use Rattle.std.specs.Prelude.{Bool, true, false}
 use Rattle.machine_desc.specs.declared.machine.OpClass.{OpClass}
 use Rattle.machine_desc.specs.declared.machine.OpClass.TheVariants.{Alu, Mul, Mem, Io, Control}
 use Rattle.ib_act.specs.declared.act.Act.{Act}
-use Rattle.ib_act.specs.declared.act.Act.TheVariants.{Mul as Times, Div, Rem, Load, Store, Get, PutByte, PutNumber}
+use Rattle.ib_act.specs.declared.act.Act.TheVariants.{Bounds, Mul as Times, Div, Rem, Load, Store, Get, PutByte, PutNumber}
 use Rattle.wide_core.specs.declared.code.WideAct.{WideAct}
 use Rattle.wide_core.specs.declared.code.WideAct.TheVariants.{Do, Spill, Reload, Check, Jump, Branch, BranchZero, Call, Return}
 
@@ -41,3 +41,38 @@ is_register_act act = true
 abbrev pub is_register : WideAct → Bool
 is_register (Do act) = is_register_act act
 is_register act = false
+
+abbrev pub traps_act : Act → Bool
+traps_act (Bounds to from bound) = true
+traps_act (Div size to left right) = true
+traps_act (Rem size to left right) = true
+traps_act (Load width to base offset) = true
+traps_act act = false
+
+-- a register operation that may fault
+abbrev pub traps : WideAct → Bool
+traps (Do act) = traps_act act
+traps act = false
+
+abbrev pub is_control : WideAct → Bool
+is_control (Jump to) = true
+is_control (Branch from to) = true
+is_control (BranchZero from to) = true
+is_control (Call result func next args) = true
+is_control (Return from) = true
+is_control act = false
+
+-- control never goes on behind it
+abbrev pub ends : WideAct → Bool
+ends (Jump to) = true
+ends (Call result func next args) = true
+ends (Return from) = true
+ends act = false
+
+-- control may go elsewhere in the function, or into another
+abbrev pub can_go : WideAct → Bool
+can_go (Jump to) = true
+can_go (Branch from to) = true
+can_go (BranchZero from to) = true
+can_go (Call result func next args) = true
+can_go act = false

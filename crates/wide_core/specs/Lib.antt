@@ -1,11 +1,16 @@
+pub mod Accesses
 pub mod Bytes
 pub mod Classes
 pub mod Cycle
+pub mod Every
+pub mod Flat
 pub mod Meaning
 pub mod Operation
 pub mod Parts
 pub mod Places
 pub mod Refusals
+pub mod Renamed
 pub mod Tagged
+pub mod Uses
 pub mod Valid
 pub mod Word

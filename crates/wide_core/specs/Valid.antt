@@ -4,7 +4,7 @@ use Rattle.std.specs.List.{list_all, list_any}
 use Rattle.machine_desc.specs.declared.machine.OpClass.{OpClass}
 use Rattle.machine_desc.specs.declared.machine.OpClass.TheVariants.{Alu, Mul, Mem, Io, Control}
 use Rattle.ib_act.specs.declared.act.Act.TheVariants.{Bounds, Load, Store}
-use Rattle.wide_core.specs.Classes.{class_of, is_register}
+use Rattle.wide_core.specs.Classes.{class_of, ends, is_register}
 use Rattle.wide_core.specs.Cycle.{touched}
 use Rattle.wide_core.specs.Operation.{target}
 use Rattle.wide_core.specs.Parts.{is_main}
@@ -12,7 +12,7 @@ use Rattle.wide_core.specs.Places.{same_loc}
 use Rattle.wide_core.specs.declared.code.Loc.{Loc}
 use Rattle.wide_core.specs.declared.code.Loc.TheVariants.{Reg, Slot}
 use Rattle.wide_core.specs.declared.code.WideAct.{WideAct}
-use Rattle.wide_core.specs.declared.code.WideAct.TheVariants.{Do, Jump, Branch, BranchZero, Call, Return}
+use Rattle.wide_core.specs.declared.code.WideAct.TheVariants.{Do, Jump, Branch, BranchZero, Call}
 use Rattle.wide_core.specs.declared.code.WideOp.{WideOp}
 use Rattle.wide_core.specs.declared.code.Word.{Word}
 use Rattle.wide_core.specs.declared.code.WideFunc.{WideFunc}
@@ -20,14 +20,19 @@ use Rattle.wide_core.specs.declared.code.RawCode.{RawCode}
 use Rattle.wide_core.specs.declared.rule.Rule.{Rule}
 use Rattle.wide_core.specs.declared.rule.BrokenRule.{BrokenRule}
 
--- what a machine sets: the operations of a word, the registers, and the units of each class
+-- what a machine sets: the most and the least operations of a word, the registers, and the units of each class
 pub record Limits : Type 0 where
   pub width : ℕ
+  pub least : ℕ
   pub regs : ℕ
   pub units : OpClass → ℕ
 
 abbrev pub limits : (width regs : ℕ) (units : OpClass → ℕ) → Limits
-limits width regs units = record { width = width; regs = regs; units = units }
+limits width regs units = record { width = width; least = 1; regs = regs; units = units }
+
+-- of code in which a word may still be empty; a function's last one cannot, since control never goes on behind it
+abbrev pub loose_limits : (width regs : ℕ) (units : OpClass → ℕ) → Limits
+loose_limits width regs units = record { width = width; least = 0; regs = regs; units = units }
 
 -- what the operations of a function may name: so many registers, slots and words, and these functions
 pub record Scope : Type 0 where
@@ -118,18 +123,12 @@ has_units limits ops class = nat_le (count_of class ops) (limits.units class)
 
 abbrev pub fits_word : Limits → List WideOp → Bool
 fits_word limits ops =
-    nat_le 1 (length ops) && nat_le (length ops) limits.width
+    nat_le limits.least (length ops) && nat_le (length ops) limits.width
     && list_all (has_units limits ops) (Alu ∷ Mul ∷ Mem ∷ Io ∷ Control ∷ [])
 
 -- control never goes on behind it
 abbrev pub always_leaves : WideOp → Bool
-always_leaves op = leaves op.act
-  where
-    leaves : WideAct → Bool
-    leaves (Jump to) = true
-    leaves (Call result func next args) = true
-    leaves (Return from) = true
-    leaves act = false
+always_leaves op = ends op.act
 
 abbrev pub rules_of_word : Limits → (last : Bool) → List WideOp → List Rule
 rules_of_word limits last ops = rule 2 (fits_word limits ops) ∷ rule 4 (not last || list_any always_leaves ops) ∷ []

@@ -1,5 +1,6 @@
 -- Words and cycles of small code, worked out.
 use Rattle.std.proofs.Common.{◌≡◌, ℕ, Bool, true, false, List, [], ◌∷◌, Some, pos, refl}
+use Rattle.std.specs.Fmt.{signed_decimal}
 use Rattle.std.specs.Prelude.{codes}
 use Rattle.ib_meaning.specs.declared.place.Place.{Place}
 use Rattle.ib_meaning.specs.Agreement.{More, Over, Returned, Meaning}
@@ -7,8 +8,8 @@ use Rattle.ib_meaning.specs.Machine.{means}
 use Rattle.ib_base.specs.declared.integers.Width.TheVariants.{W4}
 use Rattle.ib_base.specs.Integers.{wrapped}
 use Rattle.ib_act.specs.declared.act.Size.TheVariants.{Eight}
-use Rattle.ib_act.specs.declared.act.Act.TheVariants.{Const, Mul, PutNumber}
-use Rattle.machine_desc.specs.Machine.{four_latency}
+use Rattle.ib_act.specs.declared.act.Act.TheVariants.{Const, Load, Mul, PutNumber, Store}
+use Rattle.machine_desc.specs.Machine.{four_latency, four_units}
 use Rattle.wide_core.specs.declared.code.Loc.TheVariants.{Reg}
 use Rattle.wide_core.specs.declared.code.Tagged.TheVariants.{Clear}
 use Rattle.wide_core.specs.declared.code.WideAct.{WideAct}
@@ -18,7 +19,10 @@ use Rattle.wide_core.specs.declared.code.Word.{Word}
 use Rattle.wide_core.specs.declared.code.WideFunc.{WideFunc}
 use Rattle.wide_core.specs.declared.code.RawCode.{RawCode}
 use Rattle.wide_core.specs.Operation.{effect_on}
-use Rattle.wide_core.specs.Word.{after_word}
+use Rattle.wide_core.specs.Accesses.{Known, apart_at, at_head, learn, load_of, store_of}
+use Rattle.wide_core.specs.Flat.{flat, run_words}
+use Rattle.wide_core.specs.Valid.{broken, limits, loose_limits, rules_of_word}
+use Rattle.wide_core.specs.Word.{Flow, Through, after_word, flow_of}
 use Rattle.wide_core.specs.Meaning.{Wide, cycle_by, end_by, entered}
 
 abbrev home : Place
@@ -101,3 +105,45 @@ written_last memory = refl
 kept : (memory : List ℕ) → (end_by true four_latency one_branch (at_return memory) []).word.call.places (Reg 0) ≡ Clear (pos 0)
 unfolding after_word effect_on
 kept memory = refl
+
+-- ---- one after the other, and in one word
+
+abbrev shows_one : List WideOp
+shows_one = early 1 (Do (Const 0 (pos 1))) ∷ plain 2 (Do (PutNumber 0)) ∷ []
+
+abbrev empty_flow : List ℕ → Flow
+empty_flow memory = record { places = λ loc. Clear (pos 0); memory = memory; left = []; out = [] }
+
+-- what prints reads what was written before it
+reads_in_turn : (memory : List ℕ) → (flow_of (flat 4096 (λ func. true) shows_one (empty_flow memory))).out ≡ signed_decimal (pos 1)
+unfolding effect_on
+reads_in_turn memory = refl
+
+-- in one word it reads what stood before the word
+reads_before : (memory : List ℕ) → (flow_of (run_words 4096 (λ func. true) true (shows_one ∷ []) (λ s. Through s) (empty_flow memory))).out ≡ signed_decimal (pos 0)
+unfolding effect_on
+reads_before memory = refl
+
+-- ---- words without operations
+
+no_word_is_empty : broken 5 (rules_of_word (limits 4 32 four_units) false []) ≡ record { line = 5; rule = 2 } ∷ []
+no_word_is_empty = refl
+
+some_are_empty : broken 5 (rules_of_word (loose_limits 4 32 four_units) false []) ≡ []
+some_are_empty = refl
+
+the_last_is_not : broken 5 (rules_of_word (loose_limits 4 32 four_units) true []) ≡ record { line = 5; rule = 4 } ∷ []
+the_last_is_not = refl
+
+-- ---- accesses
+
+-- r0 is 4096 and r1 is 4100
+abbrev bases : Known
+bases = learn (early 2 (Do (Const 1 (pos 4100)))) (learn (early 1 (Do (Const 0 (pos 4096)))) at_head)
+
+-- a store of four bytes at 4100 meets a load of 4100, and not one of 4096
+meets_the_first : apart_at (store_of (Do (Store W4 0 (pos 4) 2))) (load_of (Do (Load W4 3 1 (pos 0)))) (bases 0) (bases 1) ≡ false
+meets_the_first = refl
+
+misses_the_second : apart_at (store_of (Do (Store W4 0 (pos 4) 2))) (load_of (Do (Load W4 3 0 (pos 0)))) (bases 0) (bases 0) ≡ true
+misses_the_second = refl

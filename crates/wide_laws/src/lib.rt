@@ -1,2 +1,2 @@
-//! Laws of the machine of long words: worked words and cycles.
+//! Laws of words: what effect an operation may have, operations with other registers, and worked words and cycles.
 #![tactic(auto)]

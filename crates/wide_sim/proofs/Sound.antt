@@ -120,10 +120,10 @@ module _ (limits : Limits) (code : RawCode) (valid : IsValid limits code) (call 
 
   pub few_ops : length ops ≤ limits.width
   few_ops =
-      at_most (length ops) limits.width (both_second (nat_le 1 (length ops)) (nat_le (length ops) limits.width) (both_first (nat_le 1 (length ops) && nat_le (length ops) limits.width) _ word_kept.few))
+      at_most (length ops) limits.width (both_second (nat_le limits.least (length ops)) (nat_le (length ops) limits.width) (both_first (nat_le limits.least (length ops) && nat_le (length ops) limits.width) _ word_kept.few))
 
   pub few_of : (class : OpClass) → count_of class ops ≤ limits.units class
-  few_of class = at_most (count_of class ops) (limits.units class) (class_kept class (both_second (nat_le 1 (length ops) && nat_le (length ops) limits.width) _ word_kept.few))
+  few_of class = at_most (count_of class ops) (limits.units class) (class_kept class (both_second (nat_le limits.least (length ops) && nat_le (length ops) limits.width) _ word_kept.few))
     where
       class_kept : (class : OpClass) → list_all (has_units limits ops) (Alu ∷ Mul ∷ Mem ∷ Io ∷ Control ∷ []) ≡ true → has_units limits ops class ≡ true
       class_kept Alu all = both_first (has_units limits ops Alu) _ all

@@ -11,11 +11,11 @@ use Rattle.wide_core.specs.declared.code.Tagged.TheVariants.{Clear, Mark}
 use Rattle.wide_core.specs.declared.code.WideAct.{WideAct}
 use Rattle.wide_core.specs.declared.code.WideAct.TheVariants.{Do, Spill, Reload, Check, Jump, Branch, BranchZero, Call, Return}
 use Rattle.wide_core.specs.declared.code.WideOp.{WideOp}
-use Rattle.wide_core.specs.Classes.{is_register, is_register_act}
+use Rattle.wide_core.specs.Classes.{is_register, is_register_act, ends, can_go}
 use Rattle.wide_core.specs.Tagged.{number_of, least_mark, evaluated}
 use Rattle.wide_core.specs.Operation.{reg_of, target, Exit, To, Into, Effect, Nothing, Write, Save, Take, Print, Go, Leave, Stop, own, is_zero, writes, does_act, does, keeps_mark, shown, Around, effect_by, effect_on}
-use Rattle.sb_order.specs.Uses.{writes_now, is_item}
-use Rattle.sb_order.specs.Flat.{ends, can_go, at_exit, at_exits}
+use Rattle.wide_core.specs.Uses.{writes_now, is_item}
+use Rattle.wide_core.specs.Flat.{at_exit, at_exits}
 
 module _ (heads : ℕ → ℕ → Bool) where
   pub data Suits (act : WideAct) : Effect → Type 0 where

@@ -1,11 +1,10 @@
 -- Operations one after the other, words one after the other, and which registers are live.
-use Rattle.std.specs.Prelude.{ℕ, Bool, true, false, ◌&&◌, not, ◌==◌, List, [], ◌∷◌, ◌++◌, Option, Some, None}
-use Rattle.wide_core.specs.declared.code.Loc.{Loc}
-use Rattle.wide_core.specs.declared.code.Loc.TheVariants.{Reg, Slot}
+use Rattle.std.specs.Prelude.{ℕ, Bool, true, false, ◌&&◌, not, List, [], ◌∷◌, ◌++◌}
 use Rattle.wide_core.specs.declared.code.WideAct.{WideAct}
-use Rattle.wide_core.specs.declared.code.WideAct.TheVariants.{Jump, Branch, BranchZero, Call, Return}
+use Rattle.wide_core.specs.declared.code.WideAct.TheVariants.{Jump, Branch, BranchZero, Call}
 use Rattle.wide_core.specs.declared.code.WideOp.{WideOp}
 use Rattle.wide_core.specs.Operation.{Exit, To, Into, Effect, Nothing, Write, Save, Take, Print, Go, Leave, Stop, Around}
+use Rattle.wide_core.specs.Uses.{is_result}
 use Rattle.wide_core.specs.Word.{Flow, Outcome, Through, Gone, Left, Stopped, effect, effects, apply, acts}
 
 -- ---- in a call whose frame begins at `base`; `room` tells for which functions there is room
@@ -39,22 +38,6 @@ module _ (base : ℕ) (room : ℕ → Bool) where
 
 -- ---- live registers, where those live at the heads are known
 
-abbrev pub is_target : Option ℕ → ℕ → Bool
-is_target None r = false
-is_target (Some d) r = r == d
-
-abbrev pub is_result : Option Loc → ℕ → Bool
-is_result None r = false
-is_result (Some (Reg d)) r = r == d
-is_result (Some (Slot n)) r = false
-
--- control never goes on behind it
-abbrev pub ends : WideAct → Bool
-ends (Jump w) = true
-ends (Call result func next args) = true
-ends (Return a) = true
-ends act = false
-
 -- `heads w r` says that r is live at the superblock that begins at the word w
 module _ (heads : ℕ → ℕ → Bool) where
   abbrev pub at_exit : Exit → ℕ → Bool
@@ -68,18 +51,7 @@ module _ (heads : ℕ → ℕ → Bool) where
   at_exits (Call result func next args) r = not (is_result result r) && heads next r
   at_exits act r = false
 
--- control may go elsewhere in the function, or into another
-abbrev pub can_go : WideAct → Bool
-can_go (Jump w) = true
-can_go (Branch a w) = true
-can_go (BranchZero a w) = true
-can_go (Call result func next args) = true
-can_go act = false
-
-pub data Every {A : Type 0} (P : A → Type 0) : List A → Type 0 where
-  Nil : Every P []
-  Cons : (x : A) (xs : List A) → P x → Every P xs → Every P (x ∷ xs)
-
+-- the operations of words, one after the other
 abbrev pub joined : List (List WideOp) → List WideOp
 joined [] = []
 joined (ops ∷ cycles) = ops ++ joined cycles

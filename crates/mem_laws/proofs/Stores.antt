@@ -6,8 +6,15 @@ use Rattle.std.specs.Int.{int_wrap}
 use Rattle.std.proofs.lemmas.Int.{ints, by_lt_z, int_wrap_fits, int_wrap-sub_right}
 use Rattle.std.proofs.lemmas.List.{take-append-le, drop-take, length-take-le}
 use Rattle.std.proofs.Math.Seq.{drop-append-add}
-use Rattle.sb_order.proofs.Closed.{both, true_le}
+use Rattle.std.proofs.lemmas.Bool.Decides.{nat_tests}
 use Rattle.ib_mem.specs.Memory.{can_access, number_of, bytes_of, filled, loaded, stored}
+
+both : (a b : Bool) → (a && b) ≡ true → (a ≡ true) × (b ≡ true)
+both true b e = (refl, e)
+both false b e = cc
+
+true_le : (a b : ℕ) → nat_le a b ≡ true → a ≤ b
+true_le a b h = grind (arith, nat_tests)
 
 -- ---- lists
 

@@ -46,9 +46,18 @@ apart_partition n = record {
       (sym a.own ∙ b.own, a.front ∙ sym b.front);
 }
 
+apart_begun : (labels : List ℕ) (c : ℕ) (chain : Labels) → slice_get (apart labels) c ≡ Some chain → 0 < length chain
+apart_begun [] c chain is = cc
+apart_begun (l ∷ labels) zero chain is =
+    let e : Some (l ∷ []) ≡ Some chain = is in
+    let one : l ∷ [] ≡ chain = cc in
+    subst (λ z. 0 < length z) one (omega arith)
+apart_begun (l ∷ labels) (suc c) chain is = apart_begun labels c chain is
+
 apart_chains : (f : TacFunc) → AreChains f (apart (upto (length f.blocks)))
 apart_chains f = record {
   partition = apart_partition (length f.blocks);
+  begun = λ c chain is. apart_begun (upto (length f.blocks)) c chain is;
   linked = λ l m c k at next. absurd (not_behind (length f.blocks) m c k next);
   straight = λ l m c k at next. absurd (not_behind (length f.blocks) m c k next);
 }

@@ -3,9 +3,9 @@ use Rattle.std.proofs.Common.{◌≡◌, ℕ, zero, suc, ◌+◌, List, [], ◌�
 use Rattle.std.specs.Prelude.{map, slice_get, Bool, true, false, length}
 use Rattle.ib_mem.specs.Memory.{cleared}
 use Rattle.ib_meaning.specs.declared.place.Place.{Place}
-use Rattle.ib_meaning.specs.Agreement.{Agrees}
+use Rattle.ib_meaning.specs.Agreement.{Agrees, Within}
 use Rattle.ib_meaning.specs.Machine.{means}
-use Rattle.ib_meaning.proofs.Agreement.{AreSame, agree_by_same}
+use Rattle.ib_meaning.proofs.Agreement.{AreSame, agree_by_same, within_same}
 use Rattle.ib_meaning.proofs.Simulation.{Alike, means_alike}
 use Rattle.tac_core.specs.declared.code.TacOp.{TacOp}
 use Rattle.tac_core.specs.declared.code.End.{End}
@@ -15,6 +15,7 @@ use Rattle.tac_core.specs.declared.code.TacFunc.{TacFunc}
 use Rattle.tac_core.specs.Program.{Program, names, main_in}
 use Rattle.tac_core.specs.Meaning.{Waiting, State, Lost, In, reg_of, number_in, block_of, frame_of, go, first_regs, call, overflows, target_of, set_in, place_of, Effect, Does, Fails, effect_of, after_act, do_return, do_call, do_end_of, do_end, tac_step, start_at, tac_meaning, first_frame, first_memory}
 use Rattle.tac_core.specs.Cover.{Origins, IsFrom, IsEndFrom, IsBlockFrom, AreFuncsFrom, Covers}
+use Rattle.tac_core.proofs.Steady.{tac_steady}
 
 -- the origins of a function, none where the function is missing
 abbrev IsFrom_in : Option Origins → ℕ → ℕ → Type 0
@@ -170,3 +171,8 @@ covers_same all copy origin h =
 pub covers_agree : (all : List Origins) (copy origin : Program) → Covers all copy origin → Agrees (tac_meaning origin) (tac_meaning copy)
 covers_agree all copy origin h =
     agree_by_same (tac_meaning origin) (tac_meaning copy) (λ input n. sym (covers_same all copy origin h input n))
+
+-- a copy has done what its origin has done after as many steps
+pub covers_within : (all : List Origins) (copy origin : Program) → Covers all copy origin → Within (λ n. n) (tac_meaning origin) (tac_meaning copy)
+covers_within all copy origin h =
+    within_same (tac_meaning origin) (tac_meaning copy) (tac_steady copy) (λ input n. sym (covers_same all copy origin h input n))

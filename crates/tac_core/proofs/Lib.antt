@@ -7,4 +7,6 @@ pub mod Pairs
 pub mod Restored
 pub mod Same
 pub mod Steady
+pub mod Sums
 pub mod Through
+pub mod Valid

@@ -1,10 +1,10 @@
 -- When a program is a copy of another, with blocks that stand several times.
-use Rattle.std.specs.Prelude.{◌≡◌, ℕ, zero, suc, List, [], ◌∷◌, ◌++◌, Option, Some, None, length, map, slice_get, slice_index_or}
+use Rattle.std.specs.Prelude.{◌≡◌, ℕ, zero, suc, ◌*◌, ◌<◌, ◌≤◌, List, [], ◌∷◌, ◌++◌, Option, Some, None, length, map, slice_get, slice_index_or}
 use Rattle.tac_core.specs.declared.code.End.{End}
 use Rattle.tac_core.specs.declared.code.End.TheVariants.{Jump, Branch, Call, Ret}
 use Rattle.tac_core.specs.declared.code.Block.{Block}
 use Rattle.tac_core.specs.declared.code.TacFunc.{TacFunc}
-use Rattle.tac_core.specs.Program.{Program, names}
+use Rattle.tac_core.specs.Program.{Program, names, func_ops}
 
 -- the origins of a function's labels, by label
 abbrev pub Origins : Type 0
@@ -49,6 +49,27 @@ pub record Covers (origins : List Origins) (copy origin : Program) : Type 0 wher
   pub named : names copy ≡ names origin
   pub funcs : (f : ℕ) → AreFuncsFrom (slice_get origins f) (slice_get copy.funcs f) (slice_get origin.funcs f)
 
+abbrev pub origin_of : Option Origins → ℕ → Option ℕ
+origin_of None l = None
+origin_of (Some origins) l = slice_get origins l
+
+abbrev pub IsBlockOf : Option TacFunc → ℕ → Type 0
+IsBlockOf None l = ⊥
+IsBlockOf (Some f) l = l < length f.blocks
+
+-- each block of the origin is the origin of some block
+abbrev pub HasEachBlock : List Origins → (origin : Program) → Type 0
+HasEachBlock origins origin = (f o : ℕ) → IsBlockOf (slice_get origin.funcs f) o → (l : ℕ) × (origin_of (slice_get origins f) l ≡ Some o)
+
+-- a function of the copy has at most so many times the operations of its origin
+abbrev pub AreWithin : (times : ℕ) → Option TacFunc → Option TacFunc → Type 0
+AreWithin times (Some copy) (Some origin) = func_ops copy ≤ times * func_ops origin
+AreWithin times copy origin = Unit {0}
+
+-- each function of the copy has at most so many times the operations of its origin
+abbrev pub AreFew : (times : ℕ) → (copy origin : Program) → Type 0
+AreFew times copy origin = (f : ℕ) → AreWithin times (slice_get copy.funcs f) (slice_get origin.funcs f)
+
 -- a copied program: the copy, the program it came from, and the origins of its labels
 pub record CopiedProgram : Type 0 where
   pub tac : Program
@@ -63,10 +84,6 @@ upto (suc n) = upto n ++ n ∷ []
 -- each function's own labels
 abbrev pub own_labels : List TacFunc → List Origins
 own_labels funcs = map (λ f. upto (length f.blocks)) funcs
-
-abbrev pub origin_of : Option Origins → ℕ → Option ℕ
-origin_of None l = None
-origin_of (Some origins) l = slice_get origins l
 
 -- the origins of a copy's copy
 abbrev pub origins_through : (first second : Origins) → Origins

@@ -5,4 +5,6 @@ pub mod Meaning
 pub mod Numbered
 pub mod Program
 pub mod Rules
+pub mod Seen
 pub mod Traces
+pub mod Weights

@@ -11,6 +11,10 @@ pub record Program : Type 0 where
   pub places : List Place
   pub funcs : List TacFunc
 
+-- the same program, but for its functions
+abbrev pub with_funcs : Program → List TacFunc → Program
+with_funcs p funcs = record { image = p.image; places = p.places; funcs = funcs }
+
 abbrev pub main_name : List ℕ
 main_name = codes "main"
 

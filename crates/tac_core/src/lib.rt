@@ -15,10 +15,12 @@ mod labels;
 mod live;
 mod matching;
 mod names;
+mod origin;
 mod program;
 mod regs;
 mod rules;
 mod shape;
+mod weights;
 
 pub use chain::{Chain, Traces};
 pub use code::{Block, End, TacFunc, TacOp};
@@ -33,3 +35,4 @@ pub use live::Live;
 pub use program::TacProgram;
 pub use regs::Regs;
 pub use shape::is_name;
+pub use weights::{in_weights, out_weights};

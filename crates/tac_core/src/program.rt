@@ -30,7 +30,7 @@ impl TacProgram {
     ghost use Rattle.std.specs.Prelude.{◌≡◌, ◌<◌, IfOk, IfSome, MatchOption, length};
     ghost use Rattle.ib_meaning.specs.Agreement.{IsSteady};
     ghost use Rattle.tac_core.specs.Meaning.{tac_meaning};
-    ghost use Rattle.tac_core.specs.Program.{Program, main_of, capped, program_ops};
+    ghost use Rattle.tac_core.specs.Program.{Program, main_of, capped, program_ops, with_funcs};
     ghost use Rattle.tac_core.specs.Rules.{IsValid};
 
     /// The program of these parts, or `None` where they break a rule. Running it for more steps only shows more.
@@ -98,6 +98,30 @@ impl TacProgram {
             total = with_func_ops(total, func);
         }
         total
+    }
+
+    /// This program with other functions, which keep it valid.
+    pub(crate) fn with_funcs(
+        &self,
+        alloc: Global,
+        funcs: Items<TacFunc>,
+    ) -> Result<TacProgram, AllocError>
+        requires { IsValid self.now → IsValid (with_funcs self.now funcs) }
+        ensures { IfOk result (λ p. p ≡ with_funcs self.now funcs) }
+    {
+        let Ok(image) = Items::from_slice(alloc, self.image.as_slice()) else {
+            drop(funcs);
+            return Err(AllocError);
+        };
+        let Ok(places) = Items::from_slice(alloc, self.places.as_slice()) else {
+            drop(funcs);
+            return Err(AllocError);
+        };
+        Ok(TacProgram {
+            image,
+            places,
+            funcs,
+        })
     }
 
     pub fn copy(&self, alloc: Global) -> Result<TacProgram, AllocError>

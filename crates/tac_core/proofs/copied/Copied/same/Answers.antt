@@ -1,8 +1,8 @@
-use Rattle.std.proofs.Common.{subst, sym, ap, ◌∙◌}
-use Rattle.ib_meaning.specs.Agreement.{Agrees}
-use Rattle.ib_meaning.proofs.Agreement.{agree_refl}
+use Rattle.std.proofs.Common.{sym, ap, subst}
+use Rattle.ib_meaning.specs.Agreement.{Agrees, Within}
 use Rattle.tac_core.specs.Cover.{CopiedProgram}
 use Rattle.tac_core.specs.Meaning.{tac_meaning}
+use Rattle.tac_core.proofs.Cover.{covers_agree, covers_within}
 use Rattle.tac_core.proofs.Same.{covers_copy}
 use Rattle.tac_core.proofs.copied.Copied.same.Goals as goal
 
@@ -12,4 +12,12 @@ keep-requires c =
 
 pub returns-clause-agrees : goal.returns-clause-agrees
 returns-clause-agrees c =
-    subst (λ p. Agrees (tac_meaning c.args.tac.now) (tac_meaning p)) (sym (ap (λ (v : CopiedProgram). v.tac) c.keep.ensures ∙ c.in_ok-copy.ensures)) (agree_refl (tac_meaning c.args.tac.now))
+    let covers = covers_copy c.in_ok-origins.origins c.funcs.result.now c.in_ok-copy.copy c.args.tac.now c.funcs.ensures.valid c.funcs.ensures.value c.in_ok-origins.ensures c.in_ok-copy.ensures in
+    subst (λ p. Agrees (tac_meaning c.args.tac.now) (tac_meaning p)) (sym (ap (λ (v : CopiedProgram). v.tac) c.keep.ensures))
+    (covers_agree c.in_ok-origins.origins c.in_ok-copy.copy c.args.tac.now covers)
+
+pub returns-clause-within : goal.returns-clause-within
+returns-clause-within c =
+    let covers = covers_copy c.in_ok-origins.origins c.funcs.result.now c.in_ok-copy.copy c.args.tac.now c.funcs.ensures.valid c.funcs.ensures.value c.in_ok-origins.ensures c.in_ok-copy.ensures in
+    subst (λ p. Within (λ n. n) (tac_meaning c.args.tac.now) (tac_meaning p)) (sym (ap (λ (v : CopiedProgram). v.tac) c.keep.ensures))
+    (covers_within c.in_ok-origins.origins c.in_ok-copy.copy c.args.tac.now covers)

@@ -1,0 +1,2 @@
+pub mod Duplicated
+pub mod Tables

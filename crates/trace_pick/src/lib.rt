@@ -1,0 +1,2 @@
+//! The traces of a program: which chains of blocks its counts choose.
+#![tactic(auto)]

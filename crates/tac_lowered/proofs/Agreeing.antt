@@ -1,9 +1,8 @@
--- A typed program and what it is lowered to mean the same, by what its expressions give.
-use Rattle.std.proofs.Common.{◌≡◌, ℕ, zero, suc, ◌+◌, ◌*◌, ◌/◌, ◌<◌, ◌≤◌, ◌%◌, ℤ, pos, List, [], ◌∷◌, ◌++◌, length, map, Bool, true, false, ◌||◌, refl, sym, ap, ◌∙◌, subst, arith, Option, Some, None}
-use Rattle.std.specs.Prelude.{slice_get, slice_index_or, replicate, codes, bytes_eq, if◌then◌else◌, MatchOption}
-use Rattle.std.specs.List.{All}
+-- A typed program and what it is lowered to mean the same.
+use Rattle.std.proofs.Common.{◌≡◌, ℕ, zero, suc, ◌+◌, ◌<◌, ◌≤◌, ◌%◌, ℤ, pos, List, [], ◌∷◌, ◌++◌, length, map, true, false, ◌||◌, refl, sym, ap, ◌∙◌, subst, arith, Option, Some, None}
+use Rattle.std.specs.Prelude.{slice_get, replicate, codes, bytes_eq, if◌then◌else◌, MatchOption}
 use Rattle.std.proofs.lemmas.List.{append-nil}
-use Rattle.std.proofs.lemmas.Option.{slice_get_within}
+use Rattle.std.proofs.lemmas.Option.{slice_get_within, get_or_from_slice_get}
 use Rattle.ib_base.specs.declared.integers.Width.TheVariants.{W4}
 use Rattle.ib_base.specs.Integers.{wrapped}
 use Rattle.ib_mem.specs.Memory.{cleared}
@@ -25,15 +24,17 @@ use Rattle.tac_core.specs.Program as code
 use Rattle.tac_core.specs.Meaning as tac
 use Rattle.tac_core.specs.Meaning.{Waiting, tac_step, tac_meaning, set_all, do_return, first_regs}
 use Rattle.tac_core.proofs.Steady.{tac_steady}
-use Rattle.tac_lowered.specs.Code.{Code, both}
+use Rattle.tac_lowered.specs.Bytes.{AreBytes, as_bytes, of_bytes}
+use Rattle.tac_lowered.specs.Code.{Code}
 use Rattle.tac_lowered.specs.Items.{Open, goes, onward, Loop, items}
 use Rattle.tac_lowered.specs.Statements.{goes_on, go_on, low_stms}
-use Rattle.tac_lowered.specs.Lowered.{params_in, registers, nowhere, all_stored, free_in, body_of, items_of, lowered_function, lowered}
-use Rattle.tac_lowered.specs.Sound.{KeepsExp, KeepsStm, KeepsStms, KeepsFunction, KeepsProgram}
+use Rattle.tac_lowered.specs.Lowered.{params_in, nowhere, all_stored, free_in, body_of, items_of, lowered_function, lowered}
+use Rattle.tac_lowered.specs.Sound.{KeepsStm, KeepsStms, KeepsFunction, KeepsProgram}
 use Rattle.tac_lowered.proofs.Geometry.{whole, at_least}
-use Rattle.tac_lowered.proofs.Relation.{IsMore, Reaches, Spot, Lies, Suit, Called, Match, Begins, Has, code_has, enters, ended, ended_last}
+use Rattle.tac_lowered.proofs.Relation.{IsMore, Reaches, Spot, Lies, Suit, Called, Match, Has, code_has, enters, ended, ended_last}
 use Rattle.tac_lowered.proofs.Gives.{first_has, second_has, both_follows}
-use Rattle.tac_lowered.proofs.Constructs.{Lowers}
+use Rattle.tac_lowered.proofs.Bytes.{bytes_are}
+use Rattle.tac_lowered.proofs.Lowering.{lowers}
 use Rattle.tac_lowered.proofs.Statements.{execs_do, zero_lies}
 use Rattle.tac_lowered.proofs.Calls.{Bodies, called_more}
 use Rattle.tac_lowered.proofs.Entry.{Agreeing, passed_agree, first_agree, set_all_long, zeros_long, map_get, place_kept}
@@ -62,12 +63,7 @@ mutual
   stay p kinds result t.no_stm h = refl
   stay p kinds result (t.a_stm a rest) h = ap (λ z. z || go_on rest) (stays p kinds result a h.0) ∙ stay p kinds result rest h.1
 
-found_at : {X : Type 0} (xs : List X) (k : ℕ) (x d : X) → slice_get xs k ≡ Some x → slice_index_or xs k d ≡ x
-found_at [] k x d e = let z : ⊥ = cc in absurd z
-found_at (y ∷ ys) zero x d e = let h : y ≡ x = cc in h
-found_at (y ∷ ys) (suc k) x d e = found_at ys k x d e
-
-module _ (p : typed.Program) (sound : KeepsProgram p) (lowers : (C : Spot) → KeepsProgram C.p → (a : Exp) → KeepsExp C.p C.kinds a → Lowers C a) where
+module _ (p : typed.Program) (sound : KeepsProgram p) where
   abbrev pub funcs : List TacFunc
   funcs = map (lowered_function p) p.functions
 
@@ -75,7 +71,7 @@ module _ (p : typed.Program) (sound : KeepsProgram p) (lowers : (C : Spot) → K
   places = p.places ++ record { line = 1; col = 1 } ∷ []
 
   keeps : (g : ℕ) (G : Function) → slice_get p.functions g ≡ Some G → KeepsFunction p G
-  keeps g G eg = subst (λ G. KeepsFunction p G) (found_at p.functions g G G eg) (sound.functions g G (slice_get_within p.functions g G eg))
+  keeps g G eg = subst (λ G. KeepsFunction p G) (get_or_from_slice_get p.functions g G G eg) (sound.functions g G (slice_get_within p.functions g G eg))
 
   there : (g : ℕ) (G : Function) → slice_get p.functions g ≡ Some G → slice_get funcs g ≡ Some (lowered_function p G)
   there g G eg = map_get (lowered_function p) p.functions g G eg
@@ -207,7 +203,7 @@ module _ (p : typed.Program) (sound : KeepsProgram p) (lowers : (C : Spot) → K
       let suit : Suit f.params [] = subst (λ qs. Suit qs []) (sym main_there.2) tt in
       let small : typed.first_frame p + f.frame ≤ 1048576 = let e1 = sound.image in let e2 = K.small in omega (arith, e1, e2) in
       let a = (bodies (suc budget) (all_called (suc budget))).by (typed.main_of p) f main_there.1 [] suit budget (omega arith) ends [] (me.start p input budget) (omega arith) refl (omega arith) (omega arith) small
-      (λ v u S q lies step. record { by = (1, ap (λ z. m.continue (m.run (tac_step funcs places) 0) z u.out) step ∙ ap (λ out. Over (Returned (wrapped W4 v)) out u.left) (append-nil u.out), λ h. absurd h) }) in
+      (λ v u S q lies step. record { by = λ bytes. (1, ap (λ z. m.continue (m.run (tac_step funcs places) 0) z u.out) step ∙ ap (λ out. Over (Returned (wrapped W4 v)) out u.left) (append-nil u.out), λ h. absurd h) }) in
       subst (λ o. Reaches funcs places (tac.call funcs (typed.main_of p) (typed.first_frame p) [] [] (me.first_memory p.image)) (me.start p input budget) (run_main p (suc budget) o (me.start p input budget))) (sym main_there.1) a
 
   memory_same : (image : List ℕ) → me.first_memory image ≡ tac.first_memory image
@@ -220,23 +216,25 @@ module _ (p : typed.Program) (sound : KeepsProgram p) (lowers : (C : Spot) → K
       ap (λ g. m.run (tac_step funcs places) j (tac.call funcs g (typed.first_frame p) [] [] (tac.first_memory p.image)) input []) (sym (main_same p.functions))
       ∙ ap (λ z. m.run (tac_step funcs places) j (tac.call funcs (typed.main_of p) (typed.first_frame p) [] [] z) input []) (sym (memory_same p.image))
 
-  ahead : (input : List ℕ) (n : ℕ) → (j : ℕ) × (n ≤ j) × (source_meaning p input n ≡ tac_meaning (lowered p) input j)
-  ahead input n = go (source_meaning p input n) refl
+  ahead : (input : List ℕ) → AreBytes input → (n : ℕ) → (j : ℕ) × (n ≤ j) × (source_meaning p input n ≡ tac_meaning (lowered p) input j)
+  ahead input bytes n = go (source_meaning p input n) refl
     where
-      r : Reaches funcs places (tac.call funcs (typed.main_of p) (typed.first_frame p) [] [] (me.first_memory p.image)) (me.start p input n) (source_meaning p input n)
-      r = main_reaches input n
+      r : (j : ℕ) × (m.run (tac_step funcs places) j (tac.call funcs (typed.main_of p) (typed.first_frame p) [] [] (me.first_memory p.image)) input [] ≡ source_meaning p input n) × (IsMore (source_meaning p input n) → n ≤ j)
+      r = (main_reaches input n).by bytes
 
-      same : tac_meaning (lowered p) input r.by.0 ≡ source_meaning p input n
-      same = runs_as input r.by.0 ∙ r.by.1
+      same : tac_meaning (lowered p) input r.0 ≡ source_meaning p input n
+      same = runs_as input r.0 ∙ r.1
 
       go : (rep : Report) → source_meaning p input n ≡ rep → (j : ℕ) × (n ≤ j) × (source_meaning p input n ≡ tac_meaning (lowered p) input j)
-      go (More out left) e = (r.by.0, r.by.2 (subst (λ z. IsMore z) (sym e) tt), sym same)
+      go (More out left) e = (r.0, r.2 (subst (λ z. IsMore z) (sym e) tt), sym same)
       go (Over finish out left) e =
-          let le : r.by.0 ≤ r.by.0 + n = omega arith in
-          let k = (tac_steady (lowered p)).later input r.by.0 (r.by.0 + n) le in
-          let k1 = subst (λ z. Keeps z (tac_meaning (lowered p) input (r.by.0 + n))) (same ∙ e) k in
-          (r.by.0 + n, omega arith, e ∙ sym k1)
+          let le : r.0 ≤ r.0 + n = omega arith in
+          let k = (tac_steady (lowered p)).later input r.0 (r.0 + n) le in
+          let k1 = subst (λ z. Keeps z (tac_meaning (lowered p) input (r.0 + n))) (same ∙ e) k in
+          (r.0 + n, omega arith, e ∙ sym k1)
 
-  -- the two meanings agree, in all four parts
-  pub lowered_agrees : Agrees (source_meaning p) (tac_meaning (lowered p))
-  lowered_agrees = agree_by_ahead (source_meaning p) (tac_meaning (lowered p)) (tac_steady (lowered p)) ahead
+  -- the two meanings agree on every input of bytes, in all four parts
+  pub lowered_agrees : Agrees (of_bytes (source_meaning p)) (of_bytes (tac_meaning (lowered p)))
+  lowered_agrees =
+      agree_by_ahead (of_bytes (source_meaning p)) (of_bytes (tac_meaning (lowered p))) (record { later = λ input n m le. (tac_steady (lowered p)).later (as_bytes input) n m le })
+      (λ input n. ahead (as_bytes input) (bytes_are input) n)

@@ -1,32 +1,23 @@
 -- Entry and return: what calls do, by what bodies do.
-use Rattle.std.proofs.Common.{◌≡◌, ◌≢◌, ℕ, zero, suc, ◌+◌, ◌<◌, ◌≤◌, ◌%◌, ℤ, pos, List, [], ◌∷◌, ◌++◌, length, map, Bool, true, false, refl, sym, ap, ◌∙◌, subst, arith, Option, Some, None, get_or-set_same, get_or-set_other, nat_eq}
-use Rattle.std.specs.Prelude.{slice_get, slice_index_or, slice_set, replicate, nat_le, nat_lt, ◌||◌, if◌then◌else◌}
-use Rattle.std.proofs.lemmas.Bool.{eq-eqb, eqb-true}
-use Rattle.std.proofs.lemmas.List.{append-nil, get_or-replicate, length-replicate}
-use Rattle.std.proofs.Math.ListN.{length-set}
-use Rattle.ib_mem.specs.Memory.{cleared}
+use Rattle.std.proofs.Common.{◌≡◌, ℕ, zero, suc, ◌+◌, ◌<◌, ◌≤◌, ◌%◌, ℤ, List, [], ◌∷◌, length, map, Bool, true, false, refl, sym, ap, ◌∙◌, subst, arith, Option, Some}
+use Rattle.std.specs.Prelude.{slice_get, nat_le, nat_lt, ◌||◌, if◌then◌else◌}
+use Rattle.std.proofs.lemmas.List.{append-nil}
 use Rattle.ib_meaning.specs.declared.place.Place.{Place}
 use Rattle.ib_meaning.specs.declared.fault.FaultKind.TheVariants.{StackOverflow}
-use Rattle.ib_meaning.specs.Agreement.{Report, More, Over, Faulted}
+use Rattle.ib_meaning.specs.Agreement.{Over, Faulted}
 use Rattle.ib_meaning.specs.Machine as m
 use Rattle.c_meaning.specs.Doing as e
 use Rattle.c_meaning.specs.Doing.{Step, Doing, stop, spend_of, fault}
-use Rattle.c_meaning.specs.Meaning as me
-use Rattle.c_meaning.specs.Meaning.{Exits, execs, calls, enter, entered, left_to, body_exits, overflows, slots_passed, frame_passed}
-use Rattle.c_typed.specs.declared.program.Home.TheVariants as h
-use Rattle.c_typed.specs.declared.program.Param.{Param}
+use Rattle.c_meaning.specs.Meaning.{execs, calls, enter, entered, left_to, body_exits, overflows}
 use Rattle.c_typed.specs.Tree.{Function}
 use Rattle.c_typed.specs.Program as typed
 use Rattle.c_typed.specs.Values.{width_of}
-use Rattle.tac_core.specs.declared.code.End.{End}
-use Rattle.tac_core.specs.declared.code.End.TheVariants.{Call, Ret}
+use Rattle.tac_core.specs.declared.code.End.TheVariants.{Call}
 use Rattle.tac_core.specs.declared.code.Block.{Block}
 use Rattle.tac_core.specs.declared.code.TacFunc.{TacFunc}
 use Rattle.tac_core.specs.Meaning as tac
 use Rattle.tac_core.specs.Meaning.{State, In, Waiting, tac_step, reg_of, number_in, set_in, go, block_of, do_end, do_end_of, do_call, do_return, place_of}
-use Rattle.tac_lowered.specs.Items.{Item, Close, Open, items, onward}
-use Rattle.tac_lowered.proofs.Geometry.{found, with_before}
-use Rattle.tac_lowered.proofs.Relation.{Reaches, nearly, silent, Spot, Lies, Back, Suit, Called, Match, Follows, Has}
+use Rattle.tac_lowered.proofs.Relation.{Reaches, nearly, silent, Lies, Back, Suit, Called}
 
 -- ---- a call's step
 
@@ -70,7 +61,7 @@ module _ (p : typed.Program) (funcs : List TacFunc) (places : List Place) (frame
           → ((v : ℤ) (u : e.State) → u.budget ≤ d → Back t u → Lies (width_of G.result) v → Reaches funcs places (go funcs f next u.base (set_in regs to v) waiting u.memory) u (k v u))
           → (x : ℕ) → x ≡ t.budget
           → Reaches funcs places (In (record { func = f; label = l; base = t.base; regs = regs; ops = [] }) waiting t.memory) t (spend_of x (enter (λ g. execs p (calls p n) n g.body) (place_of places b.end_stmt) (slice_get p.functions g) vs k) t)
-      by_budget f l b to g G eg args next vs regs waiting d dc k t q eb ee ea suit depth top rounded above back zero ex = record { by = (0, refl, λ h. omega (arith, ex)) }
+      by_budget f l b to g G eg args next vs regs waiting d dc k t q eb ee ea suit depth top rounded above back zero ex = record { by = λ bytes. (0, refl, λ h. omega (arith, ex)) }
       by_budget f l b to g G eg args next vs regs waiting d dc k t q eb ee ea suit depth top rounded above back (suc x) ex =
           subst (λ o. Reaches funcs places S t (enter (λ g. execs p (calls p n) n g.body) (place_of places b.end_stmt) o vs k t')) (sym eg) (goes (overflows G t') refl)
         where
@@ -104,7 +95,7 @@ module _ (p : typed.Program) (funcs : List TacFunc) (places : List Place) (frame
               second false b h = h
 
           goes : (over : Bool) → overflows G t' ≡ over → Reaches funcs places S t (if over then fault (place_of places b.end_stmt) StackOverflow t' else execs p (calls p n) n G.body (body_exits (λ v r. k v (left_to t' r))) (entered G vs t'))
-          goes true eo = record { by = (1, ap (λ z. m.continue (m.run (tac_step funcs places) 0) z t.out) (steps true eo) ∙ ap (λ out. Over (Faulted (place_of places b.end_stmt) StackOverflow) out t.left) (append-nil t.out), λ h. absurd h) }
+          goes true eo = record { by = λ bytes. (1, ap (λ z. m.continue (m.run (tac_step funcs places) 0) z t.out) (steps true eo) ∙ ap (λ out. Over (Faulted (place_of places b.end_stmt) StackOverflow) out t.left) (append-nil t.out), λ h. absurd h) }
           goes false eo =
               let near = bodies.by g G eg vs suit x (omega (arith, ex, q)) (λ v r. k v (left_to t' r)) (W ∷ waiting) t' (omega arith) depth rounded above (fits_in eo)
               (λ v u S' qu lies step.
@@ -113,5 +104,5 @@ module _ (p : typed.Program) (funcs : List TacFunc) (places : List Place) (frame
               let a = back v u' qu' (record { slots = refl; depth = refl; base = refl; top = refl }) lies in
               let r = silent funcs places S' (tac.go funcs f next t.base (set_in regs to v) waiting u.memory) u (k v u') step (nearly funcs places _ u (k v u') (record { by = a.by })) in
               r) in
-              let r = silent funcs places S (tac.call funcs g t.top vs (W ∷ waiting) t.memory) t _ (steps false eo) (record { by = (near.by.0, near.by.1, λ h. omega (arith, near.by.2 h, ex)) }) in
+              let r = silent funcs places S (tac.call funcs g t.top vs (W ∷ waiting) t.memory) t _ (steps false eo) (record { by = λ bytes. let j = near.by bytes in (j.0, j.1, λ h. omega (arith, j.2 h, ex)) }) in
               r

@@ -1,30 +1,27 @@
 -- Truth values, addresses, signs and sequences.
-use Rattle.std.proofs.Common.{◌≡◌, ℕ, zero, suc, ◌+◌, ◌<◌, ◌≤◌, ℤ, pos, negsuc, List, [], ◌∷◌, ◌++◌, length, Bool, true, false, ◌&&◌, not, refl, sym, ap, ◌∙◌, subst, arith, Option, Some, None, Result, Ok, Err, append_assoc, ◌-ℤ◌}
+use Rattle.std.proofs.Common.{◌≡◌, ℕ, ◌≤◌, ℤ, pos, List, [], ◌++◌, Bool, true, false, ◌&&◌, not, refl, sym, ap, subst, Some, None, append_assoc}
 use Rattle.std.specs.Prelude.{slice_set, slice_index_or, if◌then◌else◌, ◌+ℤ◌}
 use mathlib.Core.Path.{fun_ext}
 use Rattle.ib_base.specs.declared.integers.Width.{Width}
-use Rattle.ib_base.specs.declared.integers.Width.TheVariants.{W1, W4, W8}
-use Rattle.ib_base.specs.Integers.{wrapped, int_eq}
+use Rattle.ib_base.specs.declared.integers.Width.TheVariants.{W1, W8}
 use Rattle.ib_act.specs.declared.act.Act.TheVariants.{Const, FrameAddress}
 use Rattle.c_meaning.specs.Doing as e
 use Rattle.c_meaning.specs.Doing.{Step, Doing, ◌>>=◌, pure}
-use Rattle.c_meaning.specs.Meaning.{evals}
 use Rattle.c_typed.specs.declared.types.ValueType.{ValueType}
 use Rattle.c_typed.specs.declared.expr.Storage.{Storage}
 use Rattle.c_typed.specs.declared.expr.Storage.TheVariants.{Global, Frame}
 use Rattle.c_typed.specs.Tree as t
 use Rattle.c_typed.specs.Tree.{Exp, Exps}
-use Rattle.c_typed.specs.Program as typed
 use Rattle.c_typed.specs.Values.{is_true, truth, further}
-use Rattle.tac_core.specs.Meaning.{Does, effect_of, set_in}
-use Rattle.tac_lowered.specs.Code.{Code, does, both, nothing, when, choose, Test, all_of, one_of, inverse}
-use Rattle.tac_lowered.specs.Items.{Item, Open, goes, goes_test, Next, onward, jump, closes, Loop, items, test_items, entry, own_items, owned, label_of}
-use Rattle.tac_lowered.specs.Expressions.{low, held, at, test, tested, is_quiet, are_quiet, width_in, effects}
+use Rattle.tac_core.specs.Meaning.{Does, effect_of}
+use Rattle.tac_lowered.specs.Code.{Code, does, when, Test, all_of, one_of, inverse}
+use Rattle.tac_lowered.specs.Items.{goes, goes_test, jump, items, test_items, entry, own_items, owned, label_of}
+use Rattle.tac_lowered.specs.Expressions.{low, tested, is_quiet, width_in}
 use Rattle.tac_lowered.proofs.Geometry.{own_empty, empty_test}
-use Rattle.tac_lowered.proofs.Relation.{Spot, Lies, Match, Follows, Behind, Begins, Has, nearly, test_has}
-use Rattle.tac_lowered.proofs.Gives.{After, Gives, plain_gives, kept_all, sets_follows, first_has, second_has, both_follows}
-use Rattle.tac_lowered.proofs.Constructs.{Lowers, Tests, Later, GivesOf, ev, up, no_slot_puts, plain_lowers, all_tests, one_tests, not_tests}
-use Rattle.tac_lowered.proofs.Operations.{own_has, begins_behind, after_later, weaker, choose_gives}
+use Rattle.tac_lowered.proofs.Relation.{Spot, Lies, Follows, Begins, Has, nearly, test_has}
+use Rattle.tac_lowered.proofs.Gives.{After, Gives, plain_gives, kept_all, sets_follows}
+use Rattle.tac_lowered.proofs.Constructs.{Lowers, Tests, GivesOf, ev, no_slot_puts, plain_lowers, all_tests, one_tests, not_tests}
+use Rattle.tac_lowered.proofs.Operations.{own_has, begins_behind, after_later, choose_gives}
 use Rattle.tac_lowered.proofs.Values.{nothing_gives, const_gives}
 use Rattle.tac_lowered.proofs.Widths.{truth_lies, wrapped_lies}
 
@@ -126,7 +123,7 @@ module _ (C : Spot) where
 
   -- ---- addresses
 
-  frame_acts : (j offset base : ℕ) (regs : List ℤ) (memory left : List ℕ) → effect_of (FrameAddress j (pos offset)) base regs memory left ≡ Does (slice_set regs j (further (pos base) (pos offset))) memory left []
+  pub frame_acts : (j offset base : ℕ) (regs : List ℤ) (memory left : List ℕ) → effect_of (FrameAddress j (pos offset)) base regs memory left ≡ Does (slice_set regs j (further (pos base) (pos offset))) memory left []
   unfolding effect_of
   frame_acts j offset base regs memory left = refl
 

@@ -1,11 +1,10 @@
 -- What the code of operators computes.
-use Rattle.std.proofs.Common.{◌≡◌, ◌≢◌, ℕ, suc, ◌+◌, ◌<◌, ◌≤◌, ℤ, pos, negsuc, List, [], ◌∷◌, ◌++◌, length, Bool, true, false, refl, sym, ap, ◌∙◌, subst, arith, Option, Some, None, Result, Ok, Err, get_or-set_other, ◌*ℤ◌, ◌-ℤ◌, w64}
-use Rattle.std.specs.Prelude.{slice_index_or, slice_set, ◌==◌, if◌then◌else◌, ◌+ℤ◌}
+use Rattle.std.proofs.Common.{◌≡◌, ◌≢◌, ℕ, suc, ◌<◌, ◌≤◌, ℤ, pos, List, [], ◌++◌, length, Bool, true, false, refl, sym, ap, ◌∙◌, subst, arith, Option, Some, None, Result, Ok, Err, get_or-set_other, ◌*ℤ◌, ◌-ℤ◌, w64}
+use Rattle.std.specs.Prelude.{slice_set, ◌==◌, if◌then◌else◌, ◌+ℤ◌}
 use Rattle.std.proofs.lemmas.Bool.{eqb-true}
 use Rattle.std.proofs.lemmas.Int.{int_wrap_fits, SFits-int_wrap}
 use Rattle.std.proofs.lemmas.List.{set-get_or}
-use Rattle.ib_base.specs.declared.integers.Width.{Width}
-use Rattle.ib_base.specs.declared.integers.Width.TheVariants.{W1, W4, W8}
+use Rattle.ib_base.specs.declared.integers.Width.TheVariants.{W8}
 use Rattle.ib_base.specs.Integers.{wrapped, quotient}
 use Rattle.ib_meaning.specs.declared.fault.FaultKind.{FaultKind}
 use Rattle.ib_meaning.specs.Agreement.{Report}
@@ -133,7 +132,7 @@ module _ (C : Spot) where
       ends lp n o rest h k regs t mt (Err kind) eq next = fault_follows C s act lp n o rest regs t kind h eq
 
   -- so many elements in bytes
-  scaled_follows : (s r size j : ℕ) (lp : Loop) (o : Open) (rest : List Item) (regs : List ℤ) (t : e.State) (y : ℤ) (rep : Report) → Has C o (items (scaled s r size j) lp onward o ++ rest) → Match C regs t → many C ≤ r → j < r → reg_of regs j ≡ y → Lies W8 y
+  pub scaled_follows : (s r size j : ℕ) (lp : Loop) (o : Open) (rest : List Item) (regs : List ℤ) (t : e.State) (y : ℤ) (rep : Report) → Has C o (items (scaled s r size j) lp onward o ++ rest) → Match C regs t → many C ≤ r → j < r → reg_of regs j ≡ y → Lies W8 y
       → ((regs' : List ℤ) → Match C regs' t → Same r regs regs' → reg_of regs' (scaled_in r size j) ≡ values.scaled size y → Follows C (goes (scaled s r size j) false o) rest regs' t rep)
       → Follows C o (items (scaled s r size j) lp onward o ++ rest) regs t rep
   scaled_follows s r size j lp o rest regs t y rep h mt le lt ey fit next = go (size == 1) (λ e. eqb-true size 1 e) h next
@@ -163,7 +162,7 @@ module _ (C : Spot) where
           (mul_acts r j r t.base regs1 t.memory t.left ∙ ap (λ z. Does (slice_set regs1 r (wrapped W8 (z *ℤ reg_of regs1 r))) t.memory t.left []) (s1.by j lt ∙ ey) ∙ ap (λ z. Does (slice_set regs1 r (wrapped W8 (y *ℤ z))) t.memory t.left []) (set_same C r (pos size) regs long))
           (next (slice_set regs1 r v) (set_match C r v regs1 t le m1) (same_set r r v regs regs1 (omega arith) s1) (set_same C r v regs1 long1))))
 
-  scaled_below : (r size j : ℕ) → j < r → scaled_in r size j ≤ r
+  pub scaled_below : (r size j : ℕ) → j < r → scaled_in r size j ≤ r
   scaled_below r size j lt = go (size == 1)
     where
       go : (b : Bool) → (if b then j else r) ≤ r

@@ -1,40 +1,24 @@
 -- What single constructs give.
-use Rattle.std.proofs.Common.{◌≡◌, ◌≢◌, ℕ, suc, ◌+◌, ◌<◌, ◌≤◌, ℤ, pos, negsuc, List, [], ◌∷◌, ◌++◌, length, Bool, true, false, ◌&&◌, not, refl, sym, ap, ◌∙◌, subst, arith, Option, Some, None, Result, Ok, Err, append_assoc, ◌-ℤ◌}
-use Rattle.std.specs.Prelude.{slice_get, slice_index_or, slice_set, ◌==◌, if◌then◌else◌, ◌+ℤ◌}
+use Rattle.std.proofs.Common.{◌≡◌, ℕ, ◌+◌, ◌<◌, ◌≤◌, ℤ, pos, List, [], ◌∷◌, ◌++◌, Bool, true, false, ◌&&◌, not, refl, sym, ap, ◌∙◌, subst, arith, Option, Some, append_assoc}
+use Rattle.std.specs.Prelude.{◌==◌, if◌then◌else◌}
 use mathlib.Core.Path.{fun_ext}
 use Rattle.std.proofs.lemmas.Bool.{eqb-true}
 use Rattle.ib_base.specs.declared.integers.Width.{Width}
-use Rattle.ib_base.specs.declared.integers.Width.TheVariants.{W1, W4, W8}
-use Rattle.ib_base.specs.Integers.{wrapped}
-use Rattle.ib_meaning.specs.declared.fault.FaultKind.{FaultKind}
-use Rattle.ib_meaning.specs.Agreement.{Report}
-use Rattle.ib_act.specs.declared.act.Act.{Act}
-use Rattle.ib_act.specs.declared.act.Act.TheVariants.{Const, Mov, Add, Sub, Equal, ExtByte, ExtFour, Load, FrameAddress, Get, PutByte, PutNumber}
-use Rattle.ib_act.specs.Acts as acts
-use Rattle.ib_act.specs.Acts.{first_source}
 use Rattle.c_meaning.specs.Doing as e
 use Rattle.c_meaning.specs.Doing.{Step, Doing, ◌>>=◌, pure, or_fault, get_slot, set_slot}
 use Rattle.c_meaning.specs.Meaning.{eval}
-use Rattle.c_typed.specs.declared.types.ValueType.{ValueType}
-use Rattle.c_typed.specs.declared.operation.Operation.{Operation}
 use Rattle.c_typed.specs.Tree as t
 use Rattle.c_typed.specs.Tree.{Exp, Exps}
 use Rattle.c_typed.specs.Program as typed
-use Rattle.c_typed.specs.Values as values
-use Rattle.c_typed.specs.Values.{width_of, is_true, truth}
+use Rattle.c_typed.specs.Values.{is_true, truth}
 use Rattle.tac_core.specs.declared.code.End.{End}
 use Rattle.tac_core.specs.declared.code.End.TheVariants.{Jump, Branch}
-use Rattle.tac_core.specs.Meaning.{Does, effect_of, reg_of, set_in, writes}
-use Rattle.tac_lowered.specs.Code.{Code, does, both, nothing, when, choose, Test, settled, on, all_of, one_of, inverse}
-use Rattle.tac_lowered.specs.Items.{Item, Close, Open, fresh, goes, goes_test, Next, onward, jump, closes, close, Loop, branch, items, test_items, entry, own_items, owned, label_of}
-use Rattle.tac_lowered.specs.Operators.{moved, number, or_else, narrows, cut, operated, given_by}
+use Rattle.tac_core.specs.Meaning.{reg_of}
+use Rattle.tac_lowered.specs.Code.{Code, Test, settled, on, all_of, one_of, inverse}
+use Rattle.tac_lowered.specs.Items.{Item, Close, Open, goes, goes_test, onward, Loop, branch, items, test_items}
 use Rattle.tac_lowered.specs.Expressions.{low, held, at, test, tested, is_quiet, width_in}
-use Rattle.tac_lowered.specs.Lowered.{up_to_end, registers}
-use Rattle.tac_lowered.proofs.Geometry.{end_least}
-use Rattle.tac_lowered.proofs.Relation.{Spot, Lies, many, slot_of, kind_of, Match, Kept, Follows, Behind, Begins, Nears, Has, close_has, behind_has, code_has, test_has, jumps, branch_steps, enters, nearly}
-use Rattle.tac_lowered.proofs.Gives.{After, Gives, Puts, Stays, set_match, set_same, set_kept, slot_match, kept_all, kept_on, after_set, wrote, nothing_follows, does_follows, sets_follows, fault_follows, first_has, second_has, both_follows, first_room, second_room, target_room, gives_puts, slot_puts}
-use Rattle.tac_lowered.proofs.Computing.{Computes, Same, same_kept, operated_computes, moved_follows, const_acts, mov_acts, truth_same}
-use Rattle.tac_lowered.proofs.Widths.{in_eight, wider, wrapped_lies, truth_lies}
+use Rattle.tac_lowered.proofs.Relation.{Spot, many, Match, Kept, Follows, Nears, Has, code_has, test_has, jumps, branch_steps, enters, nearly}
+use Rattle.tac_lowered.proofs.Gives.{After, Gives, Puts, kept_all, kept_on, gives_puts}
 
 abbrev pub is_slot : Exp → Bool
 is_slot (t.slot ty k) = true

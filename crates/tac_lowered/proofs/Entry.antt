@@ -1,40 +1,21 @@
 -- A function is entered: its registers are its variables, and its body runs.
-use Rattle.std.proofs.Common.{◌≡◌, ◌≢◌, ℕ, zero, suc, ◌+◌, ◌<◌, ◌≤◌, ◌%◌, ℤ, pos, List, [], ◌∷◌, ◌++◌, length, map, Bool, true, false, refl, sym, ap, ◌∙◌, subst, arith, Option, Some, None, get_or-set_same, get_or-set_other, nat_eq}
+use Rattle.std.proofs.Common.{◌≡◌, ◌≢◌, ℕ, zero, suc, ◌+◌, ◌<◌, ◌≤◌, ℤ, pos, List, [], ◌∷◌, ◌++◌, length, map, Bool, true, false, refl, sym, ap, ◌∙◌, subst, arith, Some, get_or-set_same, get_or-set_other, nat_eq}
 use Rattle.std.specs.Prelude.{slice_get, slice_index_or, slice_set, replicate}
 use Rattle.std.proofs.Math.ListN.{length-set}
 use Rattle.std.proofs.lemmas.Bool.{eq-eqb, eqb-true}
-use Rattle.std.proofs.lemmas.List.{append-nil}
-use Rattle.ib_mem.specs.Memory.{cleared}
 use Rattle.ib_meaning.specs.declared.place.Place.{Place}
-use Rattle.ib_meaning.specs.Agreement.{Report}
-use Rattle.c_meaning.specs.Doing as e
-use Rattle.c_meaning.specs.Doing.{Step, Doing}
-use Rattle.c_meaning.specs.Meaning.{Exits, execs, calls, entered, body_exits, slots_passed, frame_passed, set_in_slots}
+use Rattle.c_meaning.specs.Meaning.{slots_passed, set_in_slots}
 use Rattle.c_typed.specs.declared.types.ValueType.{ValueType}
 use Rattle.c_typed.specs.declared.types.ValueType.TheVariants as vt
 use Rattle.c_typed.specs.declared.program.Home.{Home}
 use Rattle.c_typed.specs.declared.program.Home.TheVariants as h
 use Rattle.c_typed.specs.declared.program.Param.{Param}
-use Rattle.c_typed.specs.Tree.{Exp, Function}
-use Rattle.c_typed.specs.Program as typed
 use Rattle.c_typed.specs.Values.{width_of}
-use Rattle.tac_core.specs.declared.code.End.{End}
-use Rattle.tac_core.specs.declared.code.End.TheVariants.{Ret}
-use Rattle.tac_core.specs.declared.code.TacFunc.{TacFunc}
-use Rattle.tac_core.specs.Meaning as tac
-use Rattle.tac_core.specs.Meaning.{Waiting, tac_step, reg_of, number_in, set_all, do_end_of, do_return, place_of, first_regs}
-use Rattle.tac_lowered.specs.Code.{Code, both}
-use Rattle.tac_lowered.specs.Items.{Item, Close, Open, goes, onward, Loop, items, blocks}
-use Rattle.tac_lowered.specs.Statements.{low_stms}
-use Rattle.tac_lowered.specs.Lowered.{home_in, params_in, registers, nowhere, all_stored, free_in, body_of, items_of, lowered_function}
-use Rattle.tac_lowered.specs.Sound.{HasHome, HaveHomes, KeepsExp, KeepsFunction}
-use Rattle.tac_lowered.proofs.Geometry.{Stands, whole, found, with_before, at_least}
-use Rattle.tac_lowered.proofs.Relation.{Reaches, Spot, Lies, Suit, Called, Match, Follows, Begins, Has, enters, ended}
-use Rattle.tac_lowered.proofs.Gives.{first_has, second_has, both_follows}
-use Rattle.tac_lowered.proofs.Constructs.{Lowers}
-use Rattle.tac_lowered.proofs.Executing.{Execs, Leads}
-use Rattle.tac_lowered.proofs.Statements.{exec_does, execs_do, zero_lies}
-use Rattle.tac_lowered.proofs.Calls.{Bodies, called_more}
+use Rattle.tac_core.specs.Meaning.{reg_of, set_all}
+use Rattle.tac_lowered.specs.Lowered.{home_in, params_in}
+use Rattle.tac_lowered.specs.Sound.{HasHome, HaveHomes}
+use Rattle.tac_lowered.proofs.Relation.{Lies, Suit}
+use Rattle.tac_lowered.proofs.Statements.{zero_lies}
 
 ff : false ≡ true → ⊥
 ff h = cc

@@ -1,19 +1,18 @@
 -- What code of statements does.
-use Rattle.std.proofs.Common.{◌≡◌, ℕ, zero, suc, ◌+◌, ◌<◌, ◌≤◌, ℤ, pos, List, [], ◌∷◌, ◌++◌, Bool, true, false, ◌||◌, refl, sym, ap, ◌∙◌, subst, arith, Option, Some, None, append_assoc}
+use Rattle.std.proofs.Common.{◌≡◌, ℕ, zero, suc, ◌<◌, ◌≤◌, ℤ, pos, List, [], ◌∷◌, ◌++◌, Bool, true, false, ◌||◌, refl, sym, ap, ◌∙◌, subst, arith, Option, append_assoc}
 use Rattle.std.specs.Prelude.{if◌then◌else◌}
 use Rattle.ib_meaning.specs.Agreement.{Report}
-use Rattle.ib_base.specs.declared.integers.Width.{Width}
 use Rattle.c_meaning.specs.Doing as e
 use Rattle.c_meaning.specs.Doing.{Step, Doing, pure}
 use Rattle.c_meaning.specs.Meaning.{Exits, turn, loop}
 use Rattle.c_typed.specs.Values.{is_true, width_of}
 use Rattle.tac_core.specs.declared.code.End.TheVariants.{Jump, Ret}
 use Rattle.tac_core.specs.Meaning.{number_in}
-use Rattle.tac_lowered.specs.Code.{breaks, continues, returns, Code, nothing, both, when, choose, repeat, until, leave, Test}
-use Rattle.tac_lowered.specs.Items.{Item, Close, Open, fresh, fresh_if, is_jump, owned, goes, goes_test, Next, onward, jump, closes, close, Loop, label_of, entry, own_items, items, test_items}
-use Rattle.tac_lowered.proofs.Geometry.{Runs, runs, own_runs, own_empty, empty_behind, empty_test}
-use Rattle.tac_lowered.proofs.Relation.{Spot, Lies, Match, Kept, Follows, Behind, Begins, Nears, Has, nearly, spend_near, close_has, behind_has, code_has, test_has, jumps, enters}
-use Rattle.tac_lowered.proofs.Gives.{Gives, nothing_follows, entry_plain, first_has, second_has, both_follows}
+use Rattle.tac_lowered.specs.Code.{breaks, continues, Code, nothing, both, when, choose, repeat, until, leave, Test}
+use Rattle.tac_lowered.specs.Items.{Item, Close, Open, fresh, is_jump, owned, goes, goes_test, Next, onward, jump, closes, Loop, label_of, entry, own_items, items, test_items}
+use Rattle.tac_lowered.proofs.Geometry.{runs, own_runs, own_empty, empty_behind, empty_test}
+use Rattle.tac_lowered.proofs.Relation.{Spot, Lies, Match, Follows, Behind, Begins, Nears, Has, nearly, spend_near, close_has, behind_has, code_has, test_has, jumps, enters}
+use Rattle.tac_lowered.proofs.Gives.{nothing_follows, entry_plain, first_has, second_has, both_follows}
 use Rattle.tac_lowered.proofs.Constructs.{Tests}
 
 or_left : (a b : Bool) → a ≡ true → (a || b) ≡ true

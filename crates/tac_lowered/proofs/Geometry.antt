@@ -1,14 +1,14 @@
 -- Where code leads the open block, and what stands behind it.
-use Rattle.std.proofs.Common.{◌≡◌, ℕ, suc, ◌+◌, ◌<◌, ◌≤◌, max, List, [], ◌∷◌, ◌++◌, length, Bool, true, false, refl, sym, ap, ◌∙◌, subst, arith, append_assoc, length-append, Option, Some, None}
-use Rattle.std.specs.Prelude.{slice_get, ◌==◌, if◌then◌else◌}
+use Rattle.std.proofs.Common.{◌≡◌, ℕ, suc, ◌<◌, ◌≤◌, List, [], ◌∷◌, ◌++◌, length, Bool, true, false, refl, sym, ap, ◌∙◌, subst, arith, append_assoc, length-append, Option, Some, None}
+use Rattle.std.specs.Prelude.{slice_get, if◌then◌else◌}
 use Rattle.ib_act.specs.declared.act.Act.{Act}
 use Rattle.ib_act.specs.Acts.{target, first_source, second_source}
 use Rattle.tac_core.specs.declared.code.TacOp.{TacOp}
 use Rattle.tac_core.specs.declared.code.End.{End}
 use Rattle.tac_core.specs.declared.code.End.TheVariants.{Jump, Branch, Call, Ret}
 use Rattle.tac_core.specs.declared.code.Block.{Block}
-use Rattle.tac_lowered.specs.Code.{breaks, continues, returns, Code, nothing, does, both, calls, when, choose, repeat, until, leave, Test, settled, on, all_of, one_of, inverse}
-use Rattle.tac_lowered.specs.Items.{Item, Do, Close, ops_of, end_of, stmt_of, block_of, rest_of, blocks, Open, fresh, fresh_if, is_full, counted, after, is_jump, owned, goes, goes_test, Loop, Next, onward, jump, closes, close, label_of, put, exit, branch, entry, own_items, items, test_items}
+use Rattle.tac_lowered.specs.Code.{Code, nothing, does, both, calls, when, choose, repeat, until, leave, Test, settled, on, all_of, one_of, inverse}
+use Rattle.tac_lowered.specs.Items.{Item, Do, Close, ops_of, end_of, stmt_of, block_of, rest_of, blocks, Open, fresh, fresh_if, is_full, counted, after, is_jump, owned, goes, goes_test, Loop, Next, onward, jump, closes, close, label_of, put, exit, branch, own_items, items, test_items}
 use Rattle.tac_lowered.specs.Lowered.{up_to, up_to_all, up_to_end, registers}
 
 abbrev pub run : Open → List Item → Open

@@ -1,9 +1,9 @@
 -- What code of expressions gives, and how it is put together.
-use Rattle.std.proofs.Common.{◌≡◌, ◌≢◌, ℕ, ◌+◌, ◌<◌, ◌≤◌, ℤ, pos, List, [], ◌∷◌, ◌++◌, length, Bool, true, false, ◌&&◌, refl, sym, ap, ◌∙◌, subst, arith, Option, Some, None, append_assoc, get_or-set_same, get_or-set_other, nat_eq}
-use Rattle.std.specs.Prelude.{slice_get, slice_index_or, slice_set, if◌then◌else◌}
+use Rattle.std.proofs.Common.{◌≡◌, ◌≢◌, ℕ, ◌+◌, ◌<◌, ◌≤◌, ℤ, pos, List, [], ◌++◌, length, Bool, true, false, refl, sym, ap, ◌∙◌, subst, arith, Option, Some, None, append_assoc, get_or-set_same, get_or-set_other, nat_eq}
+use Rattle.std.specs.Prelude.{slice_index_or, slice_set, if◌then◌else◌}
 use Rattle.std.proofs.Math.ListN.{length-set}
 use Rattle.std.proofs.lemmas.Bool.{eq-eqb, eqb-true}
-use Rattle.std.proofs.lemmas.List.{append-nil, set-get_or}
+use Rattle.std.proofs.lemmas.List.{append-nil}
 use Rattle.ib_base.specs.declared.integers.Width.{Width}
 use Rattle.ib_meaning.specs.declared.fault.FaultKind.{FaultKind}
 use Rattle.ib_meaning.specs.Agreement.{Report}
@@ -13,13 +13,13 @@ use Rattle.c_meaning.specs.Doing as e
 use Rattle.c_meaning.specs.Doing.{Step, Doing, get_slot}
 use Rattle.c_typed.specs.Program as typed
 use Rattle.c_typed.specs.Values.{width_of}
-use Rattle.tac_core.specs.declared.code.End.TheVariants.{Jump}
 use Rattle.tac_core.specs.Meaning.{Does, Fails, effect_of, reg_of, set_in}
+use Rattle.tac_lowered.specs.Bytes.{AreBytes}
 use Rattle.tac_lowered.specs.Code.{breaks, continues, Code, does, both, nothing, leave}
-use Rattle.tac_lowered.specs.Items.{Item, Do, Close, Open, fresh_if, after, goes, Next, onward, jump, closes, close, put, Loop, items, is_jump, entry, own_items}
+use Rattle.tac_lowered.specs.Items.{Item, Open, fresh_if, after, goes, Next, onward, jump, closes, close, put, Loop, items, is_jump, entry, own_items}
 use Rattle.tac_lowered.specs.Operators.{or_else}
-use Rattle.tac_lowered.proofs.Geometry.{runs, put_runs, first_below, second_below, target_below}
-use Rattle.tac_lowered.proofs.Relation.{Reaches, nearly, Spot, Lies, many, slot_of, kind_of, Match, Kept, Follows, Behind, Begins, Has, behind_has, code_has, jumps, puts, faults_at, put_has, enters}
+use Rattle.tac_lowered.proofs.Geometry.{put_runs, first_below, second_below, target_below}
+use Rattle.tac_lowered.proofs.Relation.{nearly, Spot, Lies, many, slot_of, kind_of, Match, Kept, Follows, Behind, Begins, Has, behind_has, code_has, jumps, puts, faults_at, put_has, enters}
 
 pub entry_plain : (a : Code) (x : Loop) (l label : ℕ) → is_jump a ≡ false → entry a x l label ≡ label
 entry_plain nothing x l label h = let z : ⊥ = cc in absurd z
@@ -158,18 +158,18 @@ module _ (C : Spot) where
 
   -- an operation, and what it leaves
   pub does_follows : (s : ℕ) (act : Act) (x : Loop) (n : Next) (o : Open) (rest : List Item) (regs regs' : List ℤ) (t t' : e.State) (printed : List ℕ) (r : Report) → Has C o (items (does s act) x n o ++ rest)
-      → effect_of act t.base regs t.memory t.left ≡ Does regs' t'.memory t'.left printed → t'.base ≡ t.base → t'.out ≡ t.out ++ printed → t'.budget ≡ t.budget
+      → effect_of act t.base regs t.memory t.left ≡ Does regs' t'.memory t'.left printed → t'.base ≡ t.base → t'.out ≡ t.out ++ printed → t'.budget ≡ t.budget → (AreBytes t.left → AreBytes t'.left)
       → Behind C n (goes (does s act) (closes n) o) rest regs' t' r → Follows C o (items (does s act) x n o ++ rest) regs t r
-  does_follows s act x n o rest regs regs' t t' printed r h eq base out same a =
+  does_follows s act x n o rest regs regs' t t' printed r h eq base out same still a =
       let h1 = does_has s act x n o rest h in
       subst (λ is. Follows C o is regs t r) (sym (does_as s act n o rest))
-      (puts C s act o (close n ++ rest) regs regs' t t' printed r h1 eq base out same
+      (puts C s act o (close n ++ rest) regs regs' t t' printed r h1 eq base out same still
       (nothing_follows n (after o) rest regs' t' r (behind_has C (put s act o) o (after o) (close n ++ rest) (put_runs s act o) h1) a))
 
   -- that changes registers alone
   pub sets_follows : (s : ℕ) (act : Act) (x : Loop) (n : Next) (o : Open) (rest : List Item) (regs regs' : List ℤ) (t : e.State) (r : Report) → Has C o (items (does s act) x n o ++ rest)
       → effect_of act t.base regs t.memory t.left ≡ Does regs' t.memory t.left [] → Behind C n (goes (does s act) (closes n) o) rest regs' t r → Follows C o (items (does s act) x n o ++ rest) regs t r
-  sets_follows s act x n o rest regs regs' t r h eq a = does_follows s act x n o rest regs regs' t t [] r h eq refl (sym (append-nil t.out)) refl a
+  sets_follows s act x n o rest regs regs' t r h eq a = does_follows s act x n o rest regs regs' t t [] r h eq refl (sym (append-nil t.out)) refl (λ bytes. bytes) a
 
   pub fault_follows : (s : ℕ) (act : Act) (x : Loop) (n : Next) (o : Open) (rest : List Item) (regs : List ℤ) (t : e.State) (kind : FaultKind) → Has C o (items (does s act) x n o ++ rest)
       → effect_of act t.base regs t.memory t.left ≡ Fails kind → Follows C o (items (does s act) x n o ++ rest) regs t (e.fault (typed.place_of C.p s) kind t)

@@ -1,12 +1,17 @@
 pub mod Agreeing
+pub mod Assigning
+pub mod Bytes
 pub mod Calls
 pub mod Choosing
 pub mod Computing
 pub mod Constructs
+pub mod Elements
 pub mod Entry
 pub mod Executing
 pub mod Geometry
 pub mod Gives
+pub mod Lowering
+pub mod Lying
 pub mod Operations
 pub mod Passing
 pub mod Prologue
@@ -15,6 +20,7 @@ pub mod Signs
 pub mod SoundRows
 pub mod Statements
 pub mod Storing
+pub mod Updating
 pub mod Values
 pub mod Widths
 pub mod Worked

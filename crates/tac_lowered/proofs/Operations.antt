@@ -1,14 +1,12 @@
 -- Expressions with operators of two operands, and those that choose.
-use Rattle.std.proofs.Common.{◌≡◌, ℕ, suc, ◌+◌, ◌<◌, ◌≤◌, ℤ, pos, negsuc, List, [], ◌∷◌, ◌++◌, length, Bool, true, false, ◌&&◌, not, refl, sym, ap, ◌∙◌, subst, arith, Option, Some, None, Result, Ok, Err, append_assoc, ◌-ℤ◌, w64}
-use Rattle.std.specs.Prelude.{slice_set, ◌==◌, if◌then◌else◌}
+use Rattle.std.proofs.Common.{◌≡◌, ℕ, suc, ◌+◌, ◌<◌, ◌≤◌, ℤ, pos, List, ◌++◌, Bool, true, false, ◌&&◌, refl, sym, ap, ◌∙◌, subst, arith, Option, Some, Result, Ok, append_assoc}
+use Rattle.std.specs.Prelude.{◌==◌, if◌then◌else◌}
 use mathlib.Core.Path.{fun_ext}
 use Rattle.ib_base.specs.declared.integers.Width.{Width}
-use Rattle.ib_base.specs.declared.integers.Width.TheVariants.{W1, W4, W8}
-use Rattle.ib_base.specs.Integers.{wrapped, int_eq}
 use Rattle.ib_meaning.specs.declared.fault.FaultKind.{FaultKind}
 use Rattle.ib_act.specs.declared.act.Size.{Size}
 use Rattle.ib_act.specs.declared.act.Size.TheVariants.{Eight}
-use Rattle.ib_act.specs.declared.act.Act.TheVariants.{Const, Add, Sub, Mul, Div, Equal}
+use Rattle.ib_act.specs.declared.act.Act.TheVariants.{Const, Add, Sub, Mul, Div}
 use Rattle.ib_act.specs.Acts.{first_source, second_source}
 use Rattle.c_meaning.specs.Doing as e
 use Rattle.c_meaning.specs.Doing.{Step, Doing, ◌>>=◌, pure, or_fault}
@@ -24,17 +22,17 @@ use Rattle.c_typed.specs.Tree.{Exp}
 use Rattle.c_typed.specs.Program as typed
 use Rattle.c_typed.specs.Values as values
 use Rattle.c_typed.specs.Values.{width_of, is_true, truth, ranked}
-use Rattle.tac_core.specs.Meaning.{reg_of, set_in}
-use Rattle.tac_lowered.specs.Code.{Code, does, both, nothing, when, choose, Test, all_of, one_of, inverse}
+use Rattle.tac_core.specs.Meaning.{set_in}
+use Rattle.tac_lowered.specs.Code.{Code, does, both, nothing, choose, Test}
 use Rattle.tac_lowered.specs.Items.{Item, Open, goes, goes_test, Next, onward, jump, closes, Loop, items, test_items, entry, own_items, owned, label_of}
 use Rattle.tac_lowered.specs.Operators.{or_else, narrows, size_of, scaled, scaled_in, arithmetic, comparison, operated, given_by}
-use Rattle.tac_lowered.specs.Expressions.{low, held, at, test, tested, is_quiet, width_in}
+use Rattle.tac_lowered.specs.Expressions.{low, held, at, tested, is_quiet, width_in}
 use Rattle.tac_lowered.proofs.Geometry.{runs, own_runs, own_empty, empty_test}
-use Rattle.tac_lowered.proofs.Relation.{Spot, Lies, many, Match, Kept, Follows, Behind, Begins, Nears, Has, nearly, enters, behind_has, code_has, test_has}
-use Rattle.tac_lowered.proofs.Gives.{After, Gives, GivesBy, plain_gives, Puts, Stays, kept_all, kept_on, wrote, first_has, second_has, both_follows, first_room, second_room}
-use Rattle.tac_lowered.proofs.Computing.{Computes, Same, same_kept, operated_computes}
-use Rattle.tac_lowered.proofs.Constructs.{Lowers, Tests, Later, GivesOf, ev, up, plain_lowers, on_tests, not_tests, all_tests, one_tests}
-use Rattle.tac_lowered.proofs.Widths.{in_eight, wider, truth_lies}
+use Rattle.tac_lowered.proofs.Relation.{Spot, Lies, many, Follows, Behind, Begins, Has, nearly, enters, behind_has, test_has}
+use Rattle.tac_lowered.proofs.Gives.{After, Gives, plain_gives, Puts, kept_all, kept_on, wrote, first_has, second_has, both_follows, first_room, second_room}
+use Rattle.tac_lowered.proofs.Computing.{Computes, same_kept, operated_computes}
+use Rattle.tac_lowered.proofs.Constructs.{Lowers, Tests, Later, ev, up, plain_lowers}
+use Rattle.tac_lowered.proofs.Widths.{in_eight, wider}
 
 arithmetic_first : (o : Arithmetic) (size : Size) (to x y : ℕ) → first_source (arithmetic o size to x y) ≡ Some x
 arithmetic_first ar.Add size to x y = refl
@@ -72,7 +70,7 @@ and_second false b h = absurd (apart h)
     apart h = cc
 
 module _ (C : Spot) where
-  abbrev Room : ℕ → Type 0
+  abbrev pub Room : ℕ → Type 0
   Room r = r < C.F.regs
 
   -- the registers that an operator names
@@ -99,7 +97,7 @@ module _ (C : Spot) where
           let h1 = first_has C (both a b) c lp n p rest h in
           first_room C s (Mul Eight r y r) lp onward (goes a false p) _ y refl (second_has C a b lp onward p _ h1)
 
-  operated_room : (o : Operation) (s to r x y : ℕ) (lp : Loop) (n : Next) (p : Open) (rest : List Item) → Has C p (items (operated o s to r x y) lp n p ++ rest) → Room x × Room y
+  pub operated_room : (o : Operation) (s to r x y : ℕ) (lp : Loop) (n : Next) (p : Open) (rest : List Item) → Has C p (items (operated o s to r x y) lp n p ++ rest) → Room x × Room y
   operated_room (op.Integer o rank) s to r x y lp n p rest h = (first_room C s _ lp n p rest x (arithmetic_first o (size_of (ranked rank)) to x y) h, second_room C s _ lp n p rest y (arithmetic_second o (size_of (ranked rank)) to x y) h)
   operated_room (op.Compare o) s to r x y lp n p rest h = comparison_room o s to x y lp n p rest h
   operated_room (op.Advance size) s to r x y lp n p rest h =

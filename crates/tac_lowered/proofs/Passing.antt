@@ -1,7 +1,6 @@
--- Arguments and calls.
-use Rattle.std.proofs.Common.{◌≡◌, ℕ, suc, ◌+◌, ◌<◌, ◌≤◌, ◌%◌, ℤ, pos, List, [], ◌∷◌, ◌++◌, length, map, Bool, true, false, ◌&&◌, refl, sym, ap, ◌∙◌, subst, arith, Option, Some, None}
+-- Expressions in a row, arguments and calls.
+use Rattle.std.proofs.Common.{◌≡◌, ℕ, suc, ◌+◌, ◌<◌, ◌≤◌, ◌%◌, ℤ, pos, List, [], ◌∷◌, ◌++◌, length, map, Bool, true, false, ◌&&◌, refl, sym, ap, ◌∙◌, subst, arith, Some, None}
 use Rattle.std.specs.Prelude.{slice_get, slice_index_or}
-use Rattle.ib_base.specs.declared.integers.Width.{Width}
 use Rattle.c_meaning.specs.Doing as e
 use Rattle.c_meaning.specs.Doing.{Step, Doing}
 use Rattle.c_meaning.specs.Meaning.{evals}
@@ -14,15 +13,15 @@ use Rattle.c_typed.specs.Values.{width_of}
 use Rattle.tac_core.specs.declared.code.End.TheVariants.{Call}
 use Rattle.tac_core.specs.Meaning.{reg_of, set_in, block_of, frame_of}
 use Rattle.tac_lowered.specs.Code.{Code, both, calls}
-use Rattle.tac_lowered.specs.Items.{Item, Close, Open, fresh, goes, Next, onward, jump, closes, Loop, items, label_of}
-use Rattle.tac_lowered.specs.Expressions.{low, low_all, held, at, passed, is_quiet, are_quiet, width_in}
+use Rattle.tac_lowered.specs.Items.{Item, Close, Open, fresh, goes, onward, Loop, items, label_of}
+use Rattle.tac_lowered.specs.Expressions.{low, low_all, effects, held, passed, is_quiet, are_quiet, width_in}
 use Rattle.tac_lowered.specs.Lowered.{up_to_all, registers}
-use Rattle.tac_lowered.specs.Sound.{fits_in, told, KeepsExp, KeepsExps, Fill}
+use Rattle.tac_lowered.specs.Sound.{told, KeepsExps, Fill}
 use Rattle.tac_lowered.proofs.Geometry.{found, with_before, up_least}
-use Rattle.tac_lowered.proofs.Relation.{Spot, Lies, Back, Suit, Called, kind_of, Match, Kept, Follows, Has, close_has}
-use Rattle.tac_lowered.proofs.Gives.{After, plain_gives, kept_all, kept_on, first_has, second_has, both_follows}
-use Rattle.tac_lowered.proofs.Constructs.{Lowers, ev, plain_lowers}
-use Rattle.tac_lowered.proofs.Operations.{begins_behind}
+use Rattle.tac_lowered.proofs.Relation.{Spot, Lies, Back, Suit, kind_of, Match, Kept, Follows, Has, close_has}
+use Rattle.tac_lowered.proofs.Gives.{plain_gives, kept_all, kept_on, first_has, second_has, both_follows}
+use Rattle.tac_lowered.proofs.Constructs.{Lowers, Later, ev, plain_lowers}
+use Rattle.tac_lowered.proofs.Operations.{begins_behind, after_later}
 use Rattle.tac_lowered.proofs.Statements.{no_loss, told_in}
 use Rattle.tac_lowered.proofs.Widths.{wider}
 
@@ -46,7 +45,12 @@ all_rooms : (rs : List ℕ) (n regs : ℕ) → up_to_all rs n ≤ regs → Rooms
 all_rooms [] n regs le = tt
 all_rooms (r ∷ rs) n regs le = (omega arith, all_rooms rs n regs (omega arith))
 
-module _ (C : Spot) (lowers : (a : Exp) → KeepsExp C.p C.kinds a → Lowers C a) where
+module _ (C : Spot) where
+  -- each of them is lowered
+  abbrev pub AllLower : Exps → Type 0
+  AllLower t.no_exp = Unit {0}
+  AllLower (t.an_exp a rest) = Lowers C a × AllLower rest
+
   -- what holds behind the code of arguments
   record Passed (r : ℕ) (is_still : Bool) (d : ℕ) (regs : List ℤ) (t : e.State) (registers : List ℕ) (vs regs' : List ℤ) (u : e.State) : Type 0 where
     budget : u.budget ≤ d
@@ -55,20 +59,20 @@ module _ (C : Spot) (lowers : (a : Exp) → KeepsExp C.p C.kinds a → Lowers C 
     still : is_still ≡ true → u.slots ≡ t.slots
     here : map (reg_of regs') registers ≡ vs
 
-  args_follow : (all : Exps) (qs : List Param) → KeepsExps C.p C.kinds all → Fill C.p C.kinds all qs → (s r : ℕ) → C.free ≤ r → (lp : Loop) (o : Open) (rest : List Item) → Has C o (items (low_all C.p all s r) lp onward o ++ rest) → Rooms C.F.regs (passed all r)
+  args_follow : (all : Exps) (qs : List Param) → AllLower all → KeepsExps C.p C.kinds all → Fill C.p C.kinds all qs → (s r : ℕ) → C.free ≤ r → (lp : Loop) (o : Open) (rest : List Item) → Has C o (items (low_all C.p all s r) lp onward o ++ rest) → Rooms C.F.regs (passed all r)
       → (d : ℕ) → d ≤ C.c → (k : List ℤ → Step) (regs : List ℤ) (t : e.State) → t.budget ≤ d → Match C regs t
       → ((vs regs' : List ℤ) (u : e.State) → Passed r (are_quiet all) d regs t (passed all r) vs regs' u → Suit qs vs → Follows C (goes (low_all C.p all s r) false o) rest regs' u (k vs u))
       → Follows C o (items (low_all C.p all s r) lp onward o ++ rest) regs t (evals C.p C.call C.m all (typed.place_of C.p s) k t)
-  args_follow t.no_exp [] keeps fill s r le lp o rest h rooms d dc k regs t q mt next = next [] regs t (record { budget = q; match' = mt; kept = kept_all C r regs; still = λ _. refl; here = refl }) tt
-  args_follow t.no_exp (x ∷ qs) keeps fill s r le lp o rest h rooms d dc k regs t q mt next = absurd fill
-  args_follow (t.an_exp a more) [] keeps fill s r le lp o rest h rooms d dc k regs t q mt next = absurd fill
-  args_follow (t.an_exp a more) (x ∷ qs) keeps fill s r le lp o rest h rooms d dc k regs t q mt next =
+  args_follow t.no_exp [] lower keeps fill s r le lp o rest h rooms d dc k regs t q mt next = next [] regs t (record { budget = q; match' = mt; kept = kept_all C r regs; still = λ _. refl; here = refl }) tt
+  args_follow t.no_exp (x ∷ qs) lower keeps fill s r le lp o rest h rooms d dc k regs t q mt next = absurd fill
+  args_follow (t.an_exp a more) [] lower keeps fill s r le lp o rest h rooms d dc k regs t q mt next = absurd fill
+  args_follow (t.an_exp a more) (x ∷ qs) lower keeps fill s r le lp o rest h rooms d dc k regs t q mt next =
       let A = held (are_quiet more) a (low C.p a s (Some r) r) in
       let B = low_all C.p more s (r + 1) in
       let le1 : C.free ≤ r + 1 = omega arith in
       both_follows C A B lp onward o rest regs t _
-      (((lowers a keeps.0).puts (are_quiet more) s r le).by lp o (items B lp onward (goes A false o) ++ rest) (first_has C A B lp onward o rest h) d dc _ regs t q mt (λ v regs1 u1 f st.
-      args_follow more qs keeps.1 fill.1 s (r + 1) le1 lp (goes A false o) rest (second_has C A B lp onward o rest h) rooms.1 d dc (λ vs. k (v ∷ vs)) regs1 u1 f.budget f.match' (λ vs regs2 u2 g suit.
+      ((lower.0.puts (are_quiet more) s r le).by lp o (items B lp onward (goes A false o) ++ rest) (first_has C A B lp onward o rest h) d dc _ regs t q mt (λ v regs1 u1 f st.
+      args_follow more qs lower.1 keeps.1 fill.1 s (r + 1) le1 lp (goes A false o) rest (second_has C A B lp onward o rest h) rooms.1 d dc (λ vs. k (v ∷ vs)) regs1 u1 f.budget f.match' (λ vs regs2 u2 g suit.
       let ev' = st.by regs2 u2 rooms.0 g.kept g.match' g.still in
       next (v ∷ vs) regs2 u2 (record {
         budget = g.budget;
@@ -90,8 +94,8 @@ module _ (C : Spot) (lowers : (a : Exp) → KeepsExp C.p C.kinds a → Lowers C 
     depth = b.depth ∙ h.depth;
   }
 
-  pub call_lowers : (ty : ValueType) (g : ℕ) (G : Function) (all : Exps) → slice_get C.p.functions g ≡ Some G → ty ≡ G.result → KeepsExps C.p C.kinds all → Fill C.p C.kinds all G.params → Lowers C (t.call ty g all)
-  call_lowers ty g G all eg et keeps fill = plain_lowers C (t.call ty g all) refl refl (λ s to r le.
+  pub call_lowers : (ty : ValueType) (g : ℕ) (G : Function) (all : Exps) → slice_get C.p.functions g ≡ Some G → ty ≡ G.result → AllLower all → KeepsExps C.p C.kinds all → Fill C.p C.kinds all G.params → Lowers C (t.call ty g all)
+  call_lowers ty g G all eg et lower keeps fill = plain_lowers C (t.call ty g all) refl refl (λ s to r le.
       let A = low_all C.p all s r in
       let K : Code = calls s to g (passed all r) in
       plain_gives C (both A K) to r (are_quiet all) (width_of ty) (ev C (t.call ty g all) s) refl (λ lp n o rest h d dc k regs t q mt next.
@@ -100,7 +104,7 @@ module _ (C : Spot) (lowers : (a : Exp) → KeepsExp C.p C.kinds a → Lowers C 
       let h2 = second_has C A K lp n o rest h in
       let room : up_to_all (passed all r) (registers rest C.free) ≤ C.F.regs = let e1 = h2.room in let e2 = up_least to (up_to_all (passed all r) (registers rest C.free)) in omega (arith, e1, e2) in
       both_follows C A K lp n o rest regs t _
-      (args_follow all G.params keeps fill s r le lp o (items K lp n o1 ++ rest) (first_has C A K lp n o rest h) (all_rooms (passed all r) (registers rest C.free) C.F.regs room) d dc _ regs t q mt (λ vs regs1 u f suit.
+      (args_follow all G.params lower keeps fill s r le lp o (items K lp n o1 ++ rest) (first_has C A K lp n o rest h) (all_rooms (passed all r) (registers rest C.free) C.F.regs room) d dc _ regs t q mt (λ vs regs1 u f suit.
       let M = f.match' in
       let js = Close s (Call to g (passed all r) out) ∷ rest in
       let top16 : u.top % 16 ≡ 0 = let e1 = M.top in let e2 = M.aligned in let e3 = C.rounded in omega (arith, e1, e2, e3) in
@@ -111,3 +115,37 @@ module _ (C : Spot) (lowers : (a : Exp) → KeepsExp C.p C.kinds a → Lowers C 
       (λ v u' qu b lies.
       begins_behind C n (fresh o1) rest (set_in regs1 to v) u' (k v u') refl (close_has C o1 s (Call to g (passed all r) out) rest h2)
       (next v regs1 u' (record { budget = qu; match' = back_match regs1 u u' b M; kept = f.kept; still = λ hq. b.slots ∙ f.still hq; lies = subst (λ ty. Lies (width_of ty) v) (sym et) lies }))))))))
+
+  -- ---- effects
+
+  effects_follow : (all : Exps) → AllLower all → (s r : ℕ) → C.free ≤ r → (lp : Loop) (o : Open) (rest : List Item) → Has C o (items (effects C.p all s r) lp onward o ++ rest)
+      → (d : ℕ) → d ≤ C.c → (k : List ℤ → Step) (regs : List ℤ) (t : e.State) → t.budget ≤ d → Match C regs t
+      → ((vs regs' : List ℤ) (u : e.State) → Later C r (are_quiet all) d regs t regs' u → Follows C (goes (effects C.p all s r) false o) rest regs' u (k vs u))
+      → Follows C o (items (effects C.p all s r) lp onward o ++ rest) regs t (evals C.p C.call C.m all (typed.place_of C.p s) k t)
+  effects_follow t.no_exp lower s r le lp o rest h d dc k regs u q mt next = next [] regs u (record { budget = q; match' = mt; kept = kept_all C r regs; still = λ _. refl })
+  effects_follow (t.an_exp a t.no_exp) lower s r le lp o rest h d dc k regs u q mt next =
+      (lower.0.gives s None r le).by lp onward o rest h d dc (λ v. k (v ∷ [])) regs u q mt (λ v regs1 u f.
+      next (v ∷ []) regs1 u (record { budget = f.budget; match' = f.match'; kept = f.kept; still = λ hq. f.still (and_first (is_quiet a) true hq) }))
+  effects_follow (t.an_exp a (t.an_exp b more)) lower s r le lp o rest h d dc k regs u q mt next =
+      let A = low C.p a s None r in
+      let B = effects C.p (t.an_exp b more) s r in
+      let qb = are_quiet (t.an_exp b more) in
+      both_follows C A B lp onward o rest regs u _
+      ((lower.0.gives s None r le).by lp onward o (items B lp onward (goes A false o) ++ rest) (first_has C A B lp onward o rest h) d dc (λ v. evals C.p C.call C.m (t.an_exp b more) (typed.place_of C.p s) (λ vs. k (v ∷ vs))) regs u q mt (λ v regs1 u1 f.
+      effects_follow (t.an_exp b more) lower.1 s r le lp (goes A false o) rest (second_has C A B lp onward o rest h) d dc (λ vs. k (v ∷ vs)) regs1 u1 f.budget f.match' (λ vs regs2 u2 g.
+      next (v ∷ vs) regs2 u2 (record {
+        budget = g.budget;
+        match' = g.match';
+        kept = kept_on C r r regs regs1 regs2 (omega arith) f.kept g.kept;
+        still = λ hq. g.still (and_second (is_quiet a) qb hq) ∙ f.still (and_first (is_quiet a) qb hq);
+      }))))
+
+  pub comma_lowers : (all : Exps) (a : Exp) → AllLower all → Lowers C a → Lowers C (t.comma all a)
+  comma_lowers all a lower la = plain_lowers C (t.comma all a) refl refl (λ s to r le.
+      let E = effects C.p all s r in
+      let A = low C.p a s to r in
+      plain_gives C (both E A) to r (are_quiet all && is_quiet a) (width_in a) (ev C (t.comma all a) s) refl (λ lp n o rest h d dc k regs t q mt next.
+      both_follows C E A lp n o rest regs t _
+      (effects_follow all lower s r le lp o (items A lp n (goes E false o) ++ rest) (first_has C E A lp n o rest h) d dc (λ _. ev C a s k) regs t q mt (λ vs regs1 u1 f.
+      (la.gives s to r le).by lp n (goes E false o) rest (second_has C E A lp n o rest h) d dc k regs1 u1 f.budget f.match' (λ v regs2 u2 g.
+      next v regs2 u2 (after_later C r (are_quiet all) (is_quiet a) (width_in a) d regs regs1 regs2 t u1 u2 v f g))))))

@@ -1,14 +1,12 @@
 -- Parameters that live in the frame are stored there first.
-use Rattle.std.proofs.Common.{◌≡◌, ◌≢◌, ℕ, suc, ◌+◌, ◌<◌, ◌≤◌, ◌%◌, ℤ, pos, List, [], ◌∷◌, ◌++◌, length, Bool, true, false, refl, sym, ap, ◌∙◌, subst, arith, Option, Some, None, get_or-set_same, get_or-set_other, w64, FitsSigned}
-use Rattle.std.specs.Prelude.{slice_set, slice_index_or, nat_le, ◌==◌, ◌&&◌, ◌+ℤ◌, slice_get, if◌then◌else◌}
+use Rattle.std.proofs.Common.{◌≡◌, ◌≢◌, ℕ, ◌+◌, ◌<◌, ◌≤◌, ◌%◌, ℤ, pos, List, [], ◌∷◌, ◌++◌, length, Bool, true, false, refl, sym, ap, ◌∙◌, arith, Some, None, get_or-set_same, get_or-set_other, w64}
+use Rattle.std.specs.Prelude.{slice_set, nat_le, ◌==◌, ◌&&◌, ◌+ℤ◌, if◌then◌else◌}
 use Rattle.std.specs.Int.{cast_unsigned}
 use Rattle.std.proofs.Math.ListN.{length-set}
 use Rattle.std.proofs.lemmas.Bool.{le-leb}
 use Rattle.std.proofs.lemmas.List.{append-nil}
 use Rattle.std.proofs.lemmas.Int.{ints, int_wrap_fits}
 use Rattle.ib_base.specs.declared.integers.Width.{Width}
-use Rattle.ib_base.specs.declared.integers.Width.TheVariants.{W8}
-use Rattle.ib_base.specs.Integers.{wrapped}
 use Rattle.ib_mem.specs.Memory.{can_access, stored, filled, bytes_of}
 use Rattle.ib_meaning.specs.Agreement.{Report}
 use Rattle.ib_act.specs.declared.act.Act.TheVariants.{FrameAddress, Store}
@@ -25,7 +23,7 @@ use Rattle.c_typed.specs.declared.program.Param.{Param}
 use Rattle.c_typed.specs.ValueTypes.{size_of}
 use Rattle.c_typed.specs.Values.{width_of, further}
 use Rattle.tac_core.specs.Meaning.{Does, effect_of, reg_of, stores, set_all}
-use Rattle.tac_lowered.specs.Code.{Code, does, both, nothing}
+use Rattle.tac_lowered.specs.Code.{Code, does}
 use Rattle.tac_lowered.specs.Items.{Item, Open, goes, onward, Loop, items}
 use Rattle.tac_lowered.specs.Lowered as low
 use Rattle.tac_lowered.specs.Lowered.{home_in, params_in, all_stored, nowhere}
@@ -155,7 +153,7 @@ module _ (C : Spot) where
       one (hm.Frame offset) has lp o rest h regs t mt at later small next =
           both_follows C a b lp onward o rest regs t rep
           (sets_follows C n (FrameAddress free (pos offset)) lp onward o (items b lp onward (goes a false o) ++ rest) regs regs1 t rep h1 (frame_acts free offset t.base regs t.memory t.left)
-          (does_follows C n (Store w free (pos 0) r) lp onward (goes a false o) rest regs1 regs1 t t' [] rep h2 effect refl (sym (append-nil t.out)) refl
+          (does_follows C n (Store w free (pos 0) r) lp onward (goes a false o) rest regs1 regs1 t t' [] rep h2 effect refl (sym (append-nil t.out)) refl (λ bytes. bytes)
           (next regs1 m1' (arrived_set qs vs (r + 1) free address regs (omega arith) later))))
         where
           n : ℕ

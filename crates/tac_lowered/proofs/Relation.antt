@@ -1,6 +1,6 @@
 -- The relation of states, and the steps that lemmas are made of.
-use Rattle.std.proofs.Common.{◌≡◌, ℕ, zero, suc, ◌+◌, ◌<◌, ◌≤◌, ◌%◌, ℤ, pos, negsuc, List, [], ◌∷◌, ◌++◌, length, Bool, true, false, refl, sym, ap, ◌∙◌, subst, arith, Option, Some, None, append_assoc, map}
-use Rattle.std.specs.Prelude.{slice_get, slice_index_or, if◌then◌else◌, ◌==◌}
+use Rattle.std.proofs.Common.{◌≡◌, ℕ, zero, suc, ◌+◌, ◌<◌, ◌≤◌, ◌%◌, ℤ, pos, negsuc, List, [], ◌∷◌, ◌++◌, length, Bool, true, false, refl, sym, ap, ◌∙◌, subst, arith, Option, Some, map}
+use Rattle.std.specs.Prelude.{slice_get, slice_index_or, if◌then◌else◌}
 use Rattle.std.proofs.lemmas.List.{append-nil}
 use Rattle.ib_base.specs.declared.integers.Width.{Width}
 use Rattle.ib_base.specs.Integers.{wrapped}
@@ -9,10 +9,8 @@ use Rattle.ib_meaning.specs.declared.fault.FaultKind.{FaultKind}
 use Rattle.ib_meaning.specs.Agreement.{Report, More, Over, Faulted}
 use Rattle.ib_meaning.specs.Machine as m
 use Rattle.ib_act.specs.declared.act.Act.{Act}
-use Rattle.ib_act.specs.Acts.{target, first_source, second_source}
 use Rattle.c_meaning.specs.Doing as e
 use Rattle.c_meaning.specs.Doing.{Step, Doing, stop, spend, spend_of}
-use Rattle.c_meaning.specs.Meaning.{Exits}
 use Rattle.c_typed.specs.declared.types.ValueType.{ValueType}
 use Rattle.c_typed.specs.declared.types.ValueType.TheVariants as v
 use Rattle.c_typed.specs.declared.program.Param.{Param}
@@ -20,52 +18,55 @@ use Rattle.c_typed.specs.Tree.{Function}
 use Rattle.c_typed.specs.Program as typed
 use Rattle.c_typed.specs.Values.{is_true, width_of}
 use Rattle.tac_core.specs.declared.code.End.{End}
-use Rattle.tac_core.specs.declared.code.End.TheVariants.{Jump, Branch, Call, Ret}
+use Rattle.tac_core.specs.declared.code.End.TheVariants.{Jump, Branch, Call}
 use Rattle.tac_core.specs.declared.code.Block.{Block}
 use Rattle.tac_core.specs.declared.code.TacFunc.{TacFunc}
 use Rattle.tac_core.specs.Meaning as tac
 use Rattle.tac_core.specs.Meaning.{State, In, Waiting, Does, Fails, tac_step, effect_of, reg_of, number_in, set_in, go, enter, block_of, target_of, do_end, after_act, place_of}
-use Rattle.tac_lowered.specs.Code.{Code, does, both, nothing, Test}
-use Rattle.tac_lowered.specs.Items.{Item, Do, Close, ops_of, Open, fresh, fresh_if, is_full, counted, after, goes, goes_test, Next, onward, jump, closes, close, put, Loop, branch, items, test_items}
-use Rattle.tac_lowered.specs.Lowered.{up_to, registers}
-use Rattle.tac_lowered.proofs.Geometry.{Runs, runs, runs_test, Stands, do_stands, close_stands, behind, with_before, found, found_empty, do_least, close_least, fewer_behind, target_below, first_below, second_below, at_least}
+use Rattle.tac_lowered.specs.Bytes.{AreBytes}
+use Rattle.tac_lowered.specs.Code.{Code, Test}
+use Rattle.tac_lowered.specs.Items.{Item, Do, Close, ops_of, Open, fresh, fresh_if, is_full, counted, after, goes, goes_test, Next, onward, jump, closes, put, Loop, items, test_items}
+use Rattle.tac_lowered.specs.Lowered.{registers}
+use Rattle.tac_lowered.proofs.Geometry.{Runs, runs, runs_test, Stands, do_stands, close_stands, behind, with_before, found, found_empty, do_least, close_least, fewer_behind, at_least}
 
 abbrev pub IsMore : Report → Type 0
 IsMore (More out left) = Unit {0}
 IsMore (Over finish out left) = ⊥
 
 module _ (funcs : List TacFunc) (places : List Place) where
-  -- From here the code comes to this report, and where it is no end, in no fewer steps than there is budget.
+  -- From here, where what is left of the input is bytes, the code comes to this report, and where it is no end, in no fewer steps
+  -- than there is budget.
   pub record Reaches (S : State) (t : e.State) (o : Report) : Type 0 where
-    pub by : (j : ℕ) × (m.run (tac_step funcs places) j S t.left t.out ≡ o) × (IsMore o → t.budget ≤ j)
+    pub by : AreBytes t.left → (j : ℕ) × (m.run (tac_step funcs places) j S t.left t.out ≡ o) × (IsMore o → t.budget ≤ j)
 
   -- the same behind a step that spends a unit
   pub record Nearly (S : State) (t : e.State) (o : Report) : Type 0 where
-    pub by : (j : ℕ) × (m.run (tac_step funcs places) j S t.left t.out ≡ o) × (IsMore o → t.budget ≤ j + 1)
+    pub by : AreBytes t.left → (j : ℕ) × (m.run (tac_step funcs places) j S t.left t.out ≡ o) × (IsMore o → t.budget ≤ j + 1)
 
   pub nearly : (S : State) (t : e.State) (o : Report) → Reaches S t o → Nearly S t o
-  nearly S t o r = record { by = (r.by.0, r.by.1, λ h. omega (arith, r.by.2 h)) }
+  nearly S t o r = record { by = λ bytes. let a = r.by bytes in (a.0, a.1, λ h. omega (arith, a.2 h)) }
 
   -- a step that prints
-  pub steps : (S S' : State) (t t' : e.State) (printed : List ℕ) (o : Report) → tac_step funcs places S t.left ≡ m.Goes S' t'.left printed → t'.out ≡ t.out ++ printed → t'.budget ≡ t.budget → Nearly S' t' o → Reaches S t o
-  steps S S' t t' printed o eq out same r = record {
-    by = (
-      suc r.by.0,
-      ap (λ x. m.continue (m.run (tac_step funcs places) r.by.0) x t.out) eq ∙ ap (λ out. m.run (tac_step funcs places) r.by.0 S' t'.left out) (sym out) ∙ r.by.1,
-      λ h. omega (arith, r.by.2 h, same),
-    );
+  pub steps : (S S' : State) (t t' : e.State) (printed : List ℕ) (o : Report) → tac_step funcs places S t.left ≡ m.Goes S' t'.left printed → t'.out ≡ t.out ++ printed → t'.budget ≡ t.budget → (AreBytes t.left → AreBytes t'.left) → Nearly S' t' o → Reaches S t o
+  steps S S' t t' printed o eq out same still r = record {
+    by = λ bytes.
+        let a = r.by (still bytes) in (
+          suc a.0,
+          ap (λ x. m.continue (m.run (tac_step funcs places) a.0) x t.out) eq ∙ ap (λ out. m.run (tac_step funcs places) a.0 S' t'.left out) (sym out) ∙ a.1,
+          λ h. omega (arith, a.2 h, same),
+        );
   }
 
   pub silent : (S S' : State) (t : e.State) (o : Report) → tac_step funcs places S t.left ≡ m.Goes S' t.left [] → Nearly S' t o → Reaches S t o
-  silent S S' t o eq r = steps S S' t t [] o eq (sym (append-nil t.out)) refl r
+  silent S S' t o eq r = steps S S' t t [] o eq (sym (append-nil t.out)) refl (λ bytes. bytes) r
 
   -- a turn's unit is paid by the step before
   pub spend_near : (S : State) (t : e.State) (k : Step) → ((b : ℕ) → suc b ≡ t.budget → Reaches S (record t { budget = b }) (k (record t { budget = b }))) → Nearly S t (spend k t)
   spend_near S t k next = go t.budget refl
     where
       go : (b : ℕ) → b ≡ t.budget → Nearly S t (spend_of b k t)
-      go zero h = record { by = (0, refl, λ x. omega arith) }
-      go (suc b) h = let a = next b h in record { by = (a.by.0, a.by.1, λ x. omega (arith, a.by.2 x)) }
+      go zero h = record { by = λ bytes. (0, refl, λ x. omega arith) }
+      go (suc b) h = let r = next b h in record { by = λ bytes. let a = r.by bytes in (a.0, a.1, λ x. omega (arith, a.2 x)) }
 
 abbrev pub Lies : Width → ℤ → Type 0
 Lies w z = wrapped w z ≡ z
@@ -234,31 +235,31 @@ module _ (C : Spot) where
 
   -- an operation that does not fault
   acts : (o : Open) (s : ℕ) (act : Act) (is : List Item) (regs regs' : List ℤ) (t t' : e.State) (printed : List ℕ) (r : Report) → effect_of act t.base regs t.memory t.left ≡ Does regs' t'.memory t'.left printed
-      → t'.base ≡ t.base → t'.out ≡ t.out ++ printed → t'.budget ≡ t.budget → Follows (counted o) is regs' t' r → Follows o (Do s act ∷ is) regs t r
-  acts o s act is regs regs' t t' printed r eq base out same a =
+      → t'.base ≡ t.base → t'.out ≡ t.out ++ printed → t'.budget ≡ t.budget → (AreBytes t.left → AreBytes t'.left) → Follows (counted o) is regs' t' r → Follows o (Do s act ∷ is) regs t r
+  acts o s act is regs regs' t t' printed r eq base out same still a =
       steps C.funcs C.places (place o (Do s act ∷ is) regs t) (place o is regs' t') t t' printed r
       (ap (λ x. after_act x (place_of C.places s) (record { func = C.f; label = o.label; base = t.base; regs = regs; ops = ops_of (Do s act ∷ is) }) (ops_of is) C.waiting t.left) eq
-      ∙ ap (λ b. m.Goes (In (record { func = C.f; label = o.label; base = b; regs = regs'; ops = ops_of is }) C.waiting t'.memory) t'.left printed) (sym base)) out same (nearly C.funcs C.places _ t' r a)
+      ∙ ap (λ b. m.Goes (In (record { func = C.f; label = o.label; base = b; regs = regs'; ops = ops_of is }) C.waiting t'.memory) t'.left printed) (sym base)) out same still (nearly C.funcs C.places _ t' r a)
 
   -- put on the open block, or on a new one
   abbrev put_of : Bool → (s : ℕ) → Act → Open → List Item
   put_of b s act o = if b then Close s (Jump (suc o.label)) ∷ Do s act ∷ [] else Do s act ∷ []
 
   pub puts : (s : ℕ) (act : Act) (o : Open) (rest : List Item) (regs regs' : List ℤ) (t t' : e.State) (printed : List ℕ) (x : Report) → Has o (put s act o ++ rest)
-      → effect_of act t.base regs t.memory t.left ≡ Does regs' t'.memory t'.left printed → t'.base ≡ t.base → t'.out ≡ t.out ++ printed → t'.budget ≡ t.budget
+      → effect_of act t.base regs t.memory t.left ≡ Does regs' t'.memory t'.left printed → t'.base ≡ t.base → t'.out ≡ t.out ++ printed → t'.budget ≡ t.budget → (AreBytes t.left → AreBytes t'.left)
       → Follows (after o) rest regs' t' x → Follows o (put s act o ++ rest) regs t x
-  puts s act o rest regs regs' t t' printed x h eq base out same a = go (is_full o) h a
+  puts s act o rest regs regs' t t' printed x h eq base out same still a = go (is_full o) h a
     where
       go : (b : Bool) → Has o (put_of b s act o ++ rest) → Follows (counted (fresh_if b o)) rest regs' t' x → Follows o (put_of b s act o ++ rest) regs t x
       go true h a =
           let h1 = close_has o s (Jump (suc o.label)) (Do s act ∷ rest) h in
           jumps o s (suc o.label) (Do s act ∷ rest) regs t x h
-          (nearly C.funcs C.places _ t x (enters (fresh o) (Do s act ∷ rest) regs t x refl h1 (acts (fresh o) s act rest regs regs' t t' printed x eq base out same a)))
-      go false h a = acts o s act rest regs regs' t t' printed x eq base out same a
+          (nearly C.funcs C.places _ t x (enters (fresh o) (Do s act ∷ rest) regs t x refl h1 (acts (fresh o) s act rest regs regs' t t' printed x eq base out same still a)))
+      go false h a = acts o s act rest regs regs' t t' printed x eq base out same still a
 
   fails : (o : Open) (s : ℕ) (act : Act) (is : List Item) (regs : List ℤ) (t : e.State) (kind : FaultKind) → effect_of act t.base regs t.memory t.left ≡ Fails kind → Follows o (Do s act ∷ is) regs t (e.fault (typed.place_of C.p s) kind t)
   fails o s act is regs t kind eq = record {
-    by = (
+    by = λ bytes. (
       1,
       ap (λ x. m.continue (m.run (tac_step C.funcs C.places) 0) (after_act x (place_of C.places s) (record { func = C.f; label = o.label; base = t.base; regs = regs; ops = ops_of (Do s act ∷ is) }) (ops_of is) C.waiting t.left) t.out) eq
           ∙ ap (λ out. Over (Faulted (place_of C.places s) kind) out t.left) (append-nil t.out) ∙ ap (λ x. Over (Faulted x kind) t.out t.left) (sym (C.stands s)),

@@ -1,10 +1,10 @@
 -- `!`, signs, and what is printed.
-use Rattle.std.proofs.Common.{◌≡◌, ℕ, zero, suc, ◌+◌, ◌<◌, ◌≤◌, ℤ, pos, negsuc, List, [], ◌∷◌, ◌++◌, length, Bool, true, false, not, refl, sym, ap, ◌∙◌, subst, arith, Option, Some, None, ◌-ℤ◌}
+use Rattle.std.proofs.Common.{◌≡◌, ℕ, zero, suc, ◌+◌, ◌<◌, ◌≤◌, ℤ, pos, negsuc, List, [], ◌++◌, length, Bool, true, false, not, refl, ap, ◌∙◌, arith, Option, Some, ◌-ℤ◌}
 use Rattle.std.specs.Prelude.{slice_set, nat_le, ◌&&◌}
 use Rattle.std.proofs.lemmas.Bool.{leb-true}
 use Rattle.std.specs.Fmt.{signed_decimal}
 use Rattle.ib_base.specs.declared.integers.Width.{Width}
-use Rattle.ib_base.specs.declared.integers.Width.TheVariants.{W1, W4, W8}
+use Rattle.ib_base.specs.declared.integers.Width.TheVariants.{W1}
 use Rattle.ib_base.specs.Integers.{wrapped, int_eq}
 use Rattle.ib_act.specs.declared.act.Act.{Act}
 use Rattle.ib_act.specs.declared.act.Act.TheVariants.{Const, Sub, Equal, PutNumber}
@@ -18,16 +18,16 @@ use Rattle.c_typed.specs.declared.operation.Sign.{Sign}
 use Rattle.c_typed.specs.declared.operation.Sign.TheVariants as sg
 use Rattle.c_typed.specs.Tree as t
 use Rattle.c_typed.specs.Tree.{Exp}
-use Rattle.c_typed.specs.Values.{is_true, truth, ranked, signed}
+use Rattle.c_typed.specs.Values.{is_true, truth, ranked}
 use Rattle.tac_core.specs.Meaning.{Does, effect_of, reg_of}
-use Rattle.tac_lowered.specs.Code.{Code, does, both, inverse}
+use Rattle.tac_lowered.specs.Code.{Code, does, both}
 use Rattle.tac_lowered.specs.Items.{Item, Open, goes, Next, onward, closes, Loop, items}
-use Rattle.tac_lowered.specs.Operators.{or_else, size_of, sign, number}
+use Rattle.tac_lowered.specs.Operators.{or_else, size_of, number}
 use Rattle.tac_lowered.specs.Expressions.{low, held, at, tested, is_quiet, width_in}
 use Rattle.tac_lowered.proofs.Relation.{Spot, Lies, many, Match, Has}
-use Rattle.tac_lowered.proofs.Gives.{After, Gives, plain_gives, Puts, kept_all, kept_on, set_kept, set_same, after_set, wrote, sets_follows, does_follows, first_has, second_has, both_follows, first_room, second_room, target_room}
+use Rattle.tac_lowered.proofs.Gives.{Gives, plain_gives, Puts, kept_all, kept_on, set_kept, set_same, after_set, wrote, sets_follows, does_follows, first_has, second_has, both_follows, first_room, second_room, target_room}
 use Rattle.tac_lowered.proofs.Computing.{const_acts, truth_same}
-use Rattle.tac_lowered.proofs.Constructs.{Lowers, Tests, GivesOf, ev, up, no_slot_puts, plain_lowers, not_tests}
+use Rattle.tac_lowered.proofs.Constructs.{Lowers, GivesOf, ev, up, no_slot_puts, plain_lowers, not_tests}
 use Rattle.tac_lowered.proofs.Values.{after_lies, number_gives}
 use Rattle.tac_lowered.proofs.Widths.{truth_lies, wrapped_lies}
 
@@ -129,5 +129,5 @@ module _ (C : Spot) where
       let m2 : Match C regs1 u2 = let m1 = f.match' in record { slots = m1.slots; room = m1.room; same = m1.same; lies = m1.lies; top = m1.top; aligned = m1.aligned; above = m1.above; depth = m1.depth } in
       let reg_is = st.by regs1 u (first_room C s (PutNumber reg) x onward o1 (items c x n o2 ++ rest) reg refl h2) (kept_all C (r + 1) regs1) f.match' (λ _. refl) in
       both_follows C b c x n o1 rest regs1 u _
-      (does_follows C s (PutNumber reg) x onward o1 (items c x n o2 ++ rest) regs1 regs1 u u2 (signed_decimal v) _ h2 (number_acts reg u.base regs1 u.memory u.left ∙ ap (λ z. Does regs1 u.memory u.left (signed_decimal z)) reg_is) refl refl refl
+      (does_follows C s (PutNumber reg) x onward o1 (items c x n o2 ++ rest) regs1 regs1 u u2 (signed_decimal v) _ h2 (number_acts reg u.base regs1 u.memory u.left ∙ ap (λ z. Does regs1 u.memory u.left (signed_decimal z)) reg_is) refl refl refl (λ bytes. bytes)
       (gc.by x n o2 rest h3 d dc k regs1 u2 f.budget m2 (λ z regs3 u3 f3. next z regs3 u3 (record { budget = f3.budget; match' = f3.match'; kept = kept_on C r r regs regs1 regs3 (omega arith) f.kept f3.kept; still = λ hq. f3.still refl ∙ f.still hq; lies = f3.lies }))))))))

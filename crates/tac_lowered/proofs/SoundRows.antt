@@ -1,5 +1,5 @@
 -- What keeps the rules of a typed program, and what does not.
-use Rattle.std.proofs.Common.{◌≡◌, pos, List, [], ◌∷◌, false, true, refl}
+use Rattle.std.proofs.Common.{◌≡◌, [], ◌∷◌, false, true, refl}
 use Rattle.c_ast.specs.declared.tree.Base.TheVariants.{Char, Void}
 use Rattle.c_typed.specs.declared.types.ValueType.TheVariants.{Base}
 use Rattle.c_typed.specs.ValueTypes.{int, long}

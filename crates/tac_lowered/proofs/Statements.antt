@@ -1,30 +1,25 @@
 -- What statements do, by what their expressions give.
-use Rattle.std.proofs.Common.{◌≡◌, ℕ, ◌+◌, ◌<◌, ◌≤◌, ℤ, pos, List, [], ◌∷◌, ◌++◌, Bool, true, false, ◌||◌, refl, sym, ap, ◌∙◌, subst, arith, Option, Some, None}
-use Rattle.std.specs.Prelude.{if◌then◌else◌}
+use Rattle.std.proofs.Common.{◌≡◌, ℕ, ◌+◌, ◌<◌, ◌≤◌, ℤ, pos, List, ◌++◌, Bool, true, false, ◌||◌, refl, sym, subst, arith, Some, None}
 use Rattle.ib_base.specs.declared.integers.Width.{Width}
 use Rattle.ib_base.specs.declared.integers.Width.TheVariants.{W1, W4, W8}
-use Rattle.c_meaning.specs.Doing as e
 use Rattle.c_meaning.specs.Doing.{Step, Doing, pure}
-use Rattle.c_meaning.specs.Meaning.{Exits, turn, loop, eval, evals, part, exec, execs}
+use Rattle.c_meaning.specs.Meaning.{Exits, loop, evals, part, exec, execs}
 use Rattle.c_typed.specs.declared.operation.Operation.{Operation}
 use Rattle.c_typed.specs.declared.operation.Operation.TheVariants as op
-use Rattle.c_typed.specs.declared.operation.Rank.TheVariants as rk
 use Rattle.c_typed.specs.Tree as t
 use Rattle.c_typed.specs.Tree.{Exp, Exps, Maybe, Stm, Stms}
 use Rattle.c_typed.specs.Program as typed
-use Rattle.c_typed.specs.Values.{width_of, is_true, ranked}
-use Rattle.tac_core.specs.declared.code.End.TheVariants.{Ret}
-use Rattle.tac_core.specs.Meaning.{number_in}
+use Rattle.c_typed.specs.Values.{width_of, ranked}
 use Rattle.tac_lowered.specs.Code.{returns, Code, nothing, both, repeat, leave, Test}
-use Rattle.tac_lowered.specs.Items.{Item, Close, Open, goes, Next, onward, closes, Loop, items}
+use Rattle.tac_lowered.specs.Items.{goes, items}
 use Rattle.tac_lowered.specs.Operators.{narrows, given_by}
 use Rattle.tac_lowered.specs.Expressions.{low, held, at, effects, tested, width_in, is_quiet}
 use Rattle.tac_lowered.specs.Statements.{goes_on, go_on, low_stm, low_stms, test_part, returned}
 use Rattle.tac_lowered.specs.Sound.{fits_in, told, gives, KeepsExp, KeepsExps, KeepsPart, Returns, KeepsStm, KeepsStms}
-use Rattle.tac_lowered.proofs.Relation.{Spot, Lies, Match, Follows, Has}
+use Rattle.tac_lowered.proofs.Relation.{Spot, Lies}
 use Rattle.tac_lowered.proofs.Gives.{Gives, kept_all, first_has, second_has, both_follows}
 use Rattle.tac_lowered.proofs.Constructs.{Lowers, Tests, ev, settled_tests}
-use Rattle.tac_lowered.proofs.Executing.{Execs, Leads, By, plain_execs, nothing_execs, break_execs, continue_execs, both_execs, when_execs, choose_execs, repeat_own, repeat_on, until_execs}
+use Rattle.tac_lowered.proofs.Executing.{Execs, plain_execs, nothing_execs, break_execs, continue_execs, both_execs, when_execs, choose_execs, repeat_own, repeat_on, until_execs}
 use Rattle.tac_lowered.proofs.Widths.{wider, truth_lies}
 
 pub no_loss : (w w' : Width) → fits_in w w' ≡ true → narrows w w' ≡ false

@@ -1,5 +1,5 @@
 -- What is stored.
-use Rattle.std.proofs.Common.{◌≡◌, ℕ, ◌+◌, ◌<◌, ◌≤◌, ℤ, pos, List, [], ◌∷◌, ◌++◌, Bool, true, false, ◌&&◌, refl, sym, ap, ◌∙◌, subst, arith, Option, Some, None}
+use Rattle.std.proofs.Common.{◌≡◌, ℕ, ◌+◌, ◌≤◌, ℤ, pos, List, [], ◌++◌, Bool, true, false, ◌&&◌, refl, sym, ap, ◌∙◌, subst, arith, Option, Some, None}
 use Rattle.std.specs.Int.{w64, cast_unsigned}
 use Rattle.std.proofs.lemmas.List.{append-nil}
 use Rattle.ib_base.specs.declared.integers.Width.{Width}
@@ -18,7 +18,7 @@ use Rattle.c_typed.specs.Tree.{Exp}
 use Rattle.c_typed.specs.Program as typed
 use Rattle.c_typed.specs.ValueTypes.{size_of}
 use Rattle.c_typed.specs.Values.{width_of, accessed}
-use Rattle.tac_core.specs.Meaning.{effect_of, reg_of, stores, set_in}
+use Rattle.tac_core.specs.Meaning.{effect_of, reg_of, stores}
 use Rattle.tac_lowered.specs.Code.{Code, does, both}
 use Rattle.tac_lowered.specs.Items.{Item, Open, goes, Next, onward, closes, Loop, items}
 use Rattle.tac_lowered.specs.Operators.{narrows, moved}
@@ -27,7 +27,7 @@ use Rattle.tac_lowered.specs.Sound.{is_value}
 use Rattle.tac_lowered.proofs.Relation.{Spot, Lies, Match, Follows, Behind, Has}
 use Rattle.tac_lowered.proofs.Gives.{After, plain_gives, kept_all, kept_on, does_follows, fault_follows, first_has, second_has, both_follows, first_room, second_room}
 use Rattle.tac_lowered.proofs.Computing.{moved_follows}
-use Rattle.tac_lowered.proofs.Constructs.{Lowers, GivesOf, ev, plain_lowers}
+use Rattle.tac_lowered.proofs.Constructs.{Lowers, ev, plain_lowers}
 use Rattle.tac_lowered.proofs.Values.{own_address, bytes_same}
 use Rattle.tac_lowered.proofs.Widths.{in_eight, wider}
 
@@ -68,7 +68,7 @@ module _ (C : Spot) where
       go : (z : Option (List ℕ)) → stored u.memory x (size_of ty) (cast_unsigned w64 y) ≡ z → Follows C o (items (does s (Store (width_of ty) ra (pos 0) rb)) lp n o ++ rest) regs u (store (typed.place_of C.p s) ty x y k u)
       go (Some memory) e' =
           subst (λ z. Follows C o (items (does s (Store (width_of ty) ra (pos 0) rb)) lp n o ++ rest) regs u (report z)) (sym e')
-          (does_follows C s (Store (width_of ty) ra (pos 0) rb) lp n o rest regs regs u (record u { memory = memory }) [] (k y (record u { memory = memory })) h (effect ∙ ap (λ z. stores z regs u.left) e') refl (sym (append-nil u.out)) refl (next memory))
+          (does_follows C s (Store (width_of ty) ra (pos 0) rb) lp n o rest regs regs u (record u { memory = memory }) [] (k y (record u { memory = memory })) h (effect ∙ ap (λ z. stores z regs u.left) e') refl (sym (append-nil u.out)) refl (λ bytes. bytes) (next memory))
       go None e' =
           subst (λ z. Follows C o (items (does s (Store (width_of ty) ra (pos 0) rb)) lp n o ++ rest) regs u (report z)) (sym e')
           (fault_follows C s (Store (width_of ty) ra (pos 0) rb) lp n o rest regs u BadAddress h (effect ∙ ap (λ z. stores z regs u.left) e'))

@@ -1,6 +1,6 @@
 -- Expressions that compute from registers.
-use Rattle.std.proofs.Common.{◌≡◌, ℕ, ◌+◌, ◌<◌, ◌≤◌, ℤ, pos, List, [], ◌∷◌, ◌++◌, Bool, true, false, ◌&&◌, not, refl, sym, ap, ◌∙◌, subst, arith, Option, Some, None, Result, Ok, Err, length, get_or-set_other}
-use Rattle.std.specs.Prelude.{slice_get, slice_index_or, slice_set, ◌==◌, if◌then◌else◌, ◌+ℤ◌}
+use Rattle.std.proofs.Common.{◌≡◌, ℕ, ◌+◌, ◌<◌, ◌≤◌, ℤ, pos, List, [], ◌++◌, Bool, true, false, ◌&&◌, refl, sym, ap, ◌∙◌, subst, arith, Option, Some, None, Result, Ok, Err, length, get_or-set_other}
+use Rattle.std.specs.Prelude.{slice_index_or, slice_set, ◌==◌, if◌then◌else◌, ◌+ℤ◌}
 use Rattle.std.proofs.lemmas.Bool.{eqb-true}
 use Rattle.std.proofs.lemmas.List.{set-get_or}
 use Rattle.ib_base.specs.declared.integers.Width.{Width}
@@ -8,11 +8,8 @@ use Rattle.ib_base.specs.declared.integers.Width.TheVariants.{W1, W4, W8}
 use Rattle.ib_base.specs.Integers.{wrapped}
 use Rattle.ib_mem.specs.Memory.{loaded}
 use Rattle.ib_meaning.specs.declared.fault.FaultKind.{FaultKind}
-use Rattle.ib_meaning.specs.declared.fault.FaultKind.TheVariants.{BadAddress}
 use Rattle.ib_act.specs.declared.act.Act.{Act}
-use Rattle.ib_act.specs.declared.act.Act.TheVariants.{Const, Mov, Add, Sub, Mul, ExtByte, ExtFour, Load}
-use Rattle.ib_act.specs.declared.act.Size.{Size}
-use Rattle.ib_act.specs.declared.act.Size.TheVariants.{Eight}
+use Rattle.ib_act.specs.declared.act.Act.TheVariants.{Const, Mov, Load}
 use Rattle.ib_act.specs.Acts as acts
 use Rattle.ib_act.specs.Acts.{first_source, second_source, read_as, bytes_in}
 use Rattle.c_ast.specs.declared.tree.Base.TheVariants.{Void, Char, Int, Long}
@@ -20,29 +17,21 @@ use Rattle.c_meaning.specs.Doing as e
 use Rattle.c_meaning.specs.Doing.{Step, Doing, ◌>>=◌, pure, or_fault, get_slot, set_slot, load}
 use Rattle.c_typed.specs.declared.types.ValueType.{ValueType}
 use Rattle.c_typed.specs.declared.types.ValueType.TheVariants as vt
-use Rattle.c_typed.specs.declared.operation.Arithmetic.{Arithmetic}
-use Rattle.c_typed.specs.declared.operation.Arithmetic.TheVariants as ar
-use Rattle.c_typed.specs.declared.operation.Comparison.{Comparison}
-use Rattle.c_typed.specs.declared.operation.Comparison.TheVariants as cm
-use Rattle.c_typed.specs.declared.operation.Operation.{Operation}
-use Rattle.c_typed.specs.declared.operation.Operation.TheVariants as op
 use Rattle.c_typed.specs.Tree as t
 use Rattle.c_typed.specs.Tree.{Exp}
 use Rattle.c_typed.specs.Program as typed
 use Rattle.c_typed.specs.ValueTypes.{size_of}
-use Rattle.c_typed.specs.Values as values
-use Rattle.c_typed.specs.Values.{width_of, is_true, truth, ranked, accessed, converted}
+use Rattle.c_typed.specs.Values.{width_of, accessed, converted}
 use Rattle.tac_core.specs.Meaning.{Does, effect_of, reg_of, set_in, writes}
 use Rattle.tac_lowered.specs.Code.{Code, does, both, nothing}
-use Rattle.tac_lowered.specs.Items.{Item, Open, goes, Next, onward, jump, closes, close, Loop, items, own_items, entry}
-use Rattle.tac_lowered.specs.Operators.{moved, number, or_else, narrows, cut, scaled, scaled_in, arithmetic, comparison, operated, given_by}
-use Rattle.tac_lowered.specs.Operators as code
+use Rattle.tac_lowered.specs.Items.{Item, Open, goes, Next, onward, jump, closes, Loop, items, own_items, entry}
+use Rattle.tac_lowered.specs.Operators.{moved, number, or_else, narrows, cut}
 use Rattle.tac_lowered.specs.Expressions.{low, held, at, is_quiet, width_in}
 use Rattle.tac_lowered.specs.Sound.{is_value}
-use Rattle.tac_lowered.proofs.Relation.{Spot, Lies, many, slot_of, kind_of, Match, Kept, Follows, Behind, Begins, Has, enters, free_room}
-use Rattle.tac_lowered.proofs.Gives.{After, Gives, GivesBy, plain_gives, Puts, Stays, set_match, set_same, slot_match, kept_all, kept_on, after_set, wrote, nothing_follows, sets_follows, fault_follows, first_has, second_has, both_follows, first_room, second_room, target_room, gives_puts, slot_puts}
-use Rattle.tac_lowered.proofs.Computing.{Computes, Same, same_kept, operated_computes, moved_follows, const_acts, mov_acts}
-use Rattle.tac_lowered.proofs.Constructs.{Lowers, Tests, GivesOf, ev, up, plain_lowers, settled_tests, on_tests}
+use Rattle.tac_lowered.proofs.Relation.{Spot, Lies, many, slot_of, kind_of, Match, Follows, Behind, Begins, Has, enters, free_room}
+use Rattle.tac_lowered.proofs.Gives.{After, Gives, plain_gives, Puts, set_same, slot_match, kept_all, wrote, nothing_follows, sets_follows, fault_follows, first_has, second_has, both_follows, first_room, gives_puts, slot_puts}
+use Rattle.tac_lowered.proofs.Computing.{moved_follows, const_acts, mov_acts}
+use Rattle.tac_lowered.proofs.Constructs.{Lowers, GivesOf, ev, up, plain_lowers, settled_tests, on_tests}
 use Rattle.tac_lowered.proofs.Widths.{in_eight, wider, wrapped_lies}
 
 and_first : (a b : Bool) → (a && b) ≡ true → a ≡ true
@@ -55,7 +44,7 @@ and_second false b h = let z : ⊥ = cc in absurd z
 
 module _ (C : Spot) where
   -- an operation that gives a result in `j`, or the fault of its statement
-  result_follows : (s : ℕ) (act : Act) (x : Loop) (n : Next) (o : Open) (rest : List Item) (j : ℕ) (k : ℤ → Step) (regs : List ℤ) (u : e.State) (z : Result ℤ FaultKind) → Has C o (items (does s act) x n o ++ rest)
+  pub result_follows : (s : ℕ) (act : Act) (x : Loop) (n : Next) (o : Open) (rest : List Item) (j : ℕ) (k : ℤ → Step) (regs : List ℤ) (u : e.State) (z : Result ℤ FaultKind) → Has C o (items (does s act) x n o ++ rest)
       → effect_of act u.base regs u.memory u.left ≡ writes (Some j) z regs u.memory u.left → ((y : ℤ) → z ≡ Ok y → Behind C n (goes (does s act) (closes n) o) rest (slice_set regs j y) u (k y u))
       → Follows C o (items (does s act) x n o ++ rest) regs u (or_fault (typed.place_of C.p s) z k u)
   result_follows s act x n o rest j k regs u (Ok y) h eq next = sets_follows C s act x n o rest regs (slice_set regs j y) u (k y u) h eq (next y refl)
@@ -127,7 +116,7 @@ module _ (C : Spot) where
   pub text_lowers : (j : ℕ) → Lies W8 (pos (slice_index_or C.p.strings j 0)) → Lowers C (t.text j)
   text_lowers j l = plain_lowers C (t.text j) refl refl (λ s to r le. number_gives s to r W8 (pos (slice_index_or C.p.strings j 0)) l)
 
-  slot_after : (j r d : ℕ) (regs : List ℤ) (t : e.State) → j < many C → t.budget ≤ d → Match C regs t → After C r true (width_of (kind_of C j)) d regs t (slot_of C t j) regs t
+  pub slot_after : (j r d : ℕ) (regs : List ℤ) (t : e.State) → j < many C → t.budget ≤ d → Match C regs t → After C r true (width_of (kind_of C j)) d regs t (slot_of C t j) regs t
   slot_after j r d regs t lt qd mt = record { budget = qd; match' = mt; kept = kept_all C r regs; still = λ _. refl; lies = mt.lies j lt }
 
   moved_gives : (s : ℕ) (to : Option ℕ) (j r : ℕ) → j < many C → Gives C (moved s to j) to r true (width_of (kind_of C j)) (get_slot j)
@@ -179,7 +168,7 @@ module _ (C : Spot) where
   bytes_same (vt.Pointer b stars) h = refl
   bytes_same vt.Null h = refl
 
-  load_acts : (w : Width) (to j base : ℕ) (regs : List ℤ) (memory left : List ℕ) → effect_of (Load w to j (pos 0)) base regs memory left ≡ writes (Some to) (read_as w (loaded memory (acts.address (reg_of regs j) (pos 0)) (bytes_in w))) regs memory left
+  pub load_acts : (w : Width) (to j base : ℕ) (regs : List ℤ) (memory left : List ℕ) → effect_of (Load w to j (pos 0)) base regs memory left ≡ writes (Some to) (read_as w (loaded memory (acts.address (reg_of regs j) (pos 0)) (bytes_in w))) regs memory left
   unfolding effect_of
   load_acts w to j base regs memory left = refl
 
@@ -189,11 +178,11 @@ module _ (C : Spot) where
   pub own_address : (x : ℤ) → Lies W8 x → acts.address x (pos 0) ≡ x
   own_address x l = ap (λ z. wrapped W8 z) (plus_none x) ∙ l
 
-  load_as : (ty : ValueType) (at : _) (k : ℤ → Step) (u : e.State) (o : Option ℕ) → or_fault at (accessed o) (λ n. k (converted ty (pos n))) u ≡ or_fault at (read_as (width_of ty) o) k u
+  pub load_as : (ty : ValueType) (at : _) (k : ℤ → Step) (u : e.State) (o : Option ℕ) → or_fault at (accessed o) (λ n. k (converted ty (pos n))) u ≡ or_fault at (read_as (width_of ty) o) k u
   load_as ty at k u None = refl
   load_as ty at k u (Some n) = refl
 
-  read_lies : (w : Width) (o : Option ℕ) (z : ℤ) → read_as w o ≡ Ok z → Lies w z
+  pub read_lies : (w : Width) (o : Option ℕ) (z : ℤ) → read_as w o ≡ Ok z → Lies w z
   read_lies w None z h = let x : ⊥ = cc in absurd x
   read_lies w (Some n) z h = let same : wrapped w (pos n) ≡ z = cc in subst (λ z. Lies w z) same (wrapped_lies w (pos n))
 
@@ -208,13 +197,13 @@ module _ (C : Spot) where
       (λ x k u l. load_as ty (typed.place_of C.p s) k u (loaded u.memory x (size_of ty)))
       (λ x u z l h. read_lies w (loaded u.memory x (size_of ty)) z h))
 
-  cut_acts : (w : Width) (to j base : ℕ) (regs : List ℤ) (memory left : List ℕ) (x : ℤ) → Lies W8 x → reg_of regs j ≡ x → effect_of (cut w to j) base regs memory left ≡ writes (Some to) (Ok (wrapped w x)) regs memory left
+  pub cut_acts : (w : Width) (to j base : ℕ) (regs : List ℤ) (memory left : List ℕ) (x : ℤ) → Lies W8 x → reg_of regs j ≡ x → effect_of (cut w to j) base regs memory left ≡ writes (Some to) (Ok (wrapped w x)) regs memory left
   unfolding effect_of
   cut_acts W1 to j base regs memory left x l ex = ap (λ z. writes (Some to) (Ok (wrapped W1 z)) regs memory left) ex
   cut_acts W4 to j base regs memory left x l ex = ap (λ z. writes (Some to) (Ok (wrapped W4 z)) regs memory left) ex
   cut_acts W8 to j base regs memory left x l ex = ap (λ z. writes (Some to) (Ok z) regs memory left) (ex ∙ sym l)
 
-  cut_source : (w : Width) (to j : ℕ) → first_source (cut w to j) ≡ Some j
+  pub cut_source : (w : Width) (to j : ℕ) → first_source (cut w to j) ≡ Some j
   cut_source W1 to j = refl
   cut_source W4 to j = refl
   cut_source W8 to j = refl

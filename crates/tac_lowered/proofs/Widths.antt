@@ -1,5 +1,5 @@
 -- Values lie in their widths.
-use Rattle.std.proofs.Common.{◌≡◌, ℕ, ◌<◌, ◌%◌, ℤ, pos, negsuc, Bool, true, false, refl, sym, ap, ◌∙◌, subst, arith, w32, w64, FitsSigned, unsigned_abs}
+use Rattle.std.proofs.Common.{◌≡◌, ◌<◌, ◌%◌, ℤ, pos, negsuc, Bool, true, false, refl, ap, subst, arith, w32, w64, FitsSigned, unsigned_abs}
 use Rattle.std.specs.Int.{int_rem_euclid}
 use Rattle.std.proofs.lemmas.Int.{ints, int_wrap_fits, SFits-int_wrap}
 use Rattle.c_typed.specs.Values.{truth}
@@ -53,3 +53,8 @@ wrapped_lies W8 z = int_wrap_fits w64 (wrapped W8 z) (SFits-int_wrap w64 z)
 pub truth_lies : (b : Bool) → Lies W1 (truth b)
 truth_lies true = refl
 truth_lies false = refl
+
+pub one_lies : (w : Width) → Lies w (pos 1)
+one_lies W1 = truth_lies true
+one_lies W4 = wider W1 W4 (pos 1) refl (truth_lies true)
+one_lies W8 = wider W1 W8 (pos 1) refl (truth_lies true)

@@ -1,5 +1,5 @@
 -- What a typed program keeps: its lowering relies on it.
-use Rattle.std.specs.Prelude.{◌≡◌, ℕ, ◌+◌, ◌<◌, ◌≤◌, ◌%◌, ◌==◌, ◌&&◌, ◌||◌, not, if◌then◌else◌, ℤ, List, [], ◌∷◌, Option, Some, None, Bool, true, false, length, map, slice_get, MatchOption}
+use Rattle.std.specs.Prelude.{◌≡◌, ℕ, ◌+◌, ◌<◌, ◌≤◌, ◌%◌, ◌==◌, ◌&&◌, ◌||◌, not, List, [], ◌∷◌, Some, Bool, true, false, length, slice_get, MatchOption}
 use Rattle.std.specs.List.{All, AllPairs}
 use Rattle.ib_base.specs.declared.integers.Width.{Width}
 use Rattle.ib_base.specs.declared.integers.Width.TheVariants.{W1, W4, W8}

@@ -6,6 +6,7 @@ pub mod Choosing
 pub mod Computing
 pub mod Constructs
 pub mod Elements
+pub mod Emitted
 pub mod Entry
 pub mod Executing
 pub mod Geometry
@@ -16,11 +17,13 @@ pub mod Operations
 pub mod Passing
 pub mod Prologue
 pub mod Relation
+pub mod Shapes
 pub mod Signs
 pub mod SoundRows
 pub mod Statements
 pub mod Storing
 pub mod Updating
+pub mod Validity
 pub mod Values
 pub mod Widths
 pub mod Worked

@@ -1,11 +1,12 @@
 -- What keeps the rules of a typed program, and what does not.
-use Rattle.std.proofs.Common.{◌≡◌, [], ◌∷◌, false, true, refl}
+use Rattle.std.proofs.Common.{◌≡◌, [], ◌∷◌, false, true, refl, arith}
 use Rattle.c_ast.specs.declared.tree.Base.TheVariants.{Char, Void}
 use Rattle.c_typed.specs.declared.types.ValueType.TheVariants.{Base}
 use Rattle.c_typed.specs.ValueTypes.{int, long}
 use Rattle.c_typed.specs.Tree.{slot, set_slot, load, expression, break, while_loop, convert}
 use Rattle.c_typed.specs.Program.{Program}
 use Rattle.tac_lowered.specs.Sound.{KeepsExp, KeepsStm}
+use Rattle.tac_lowered.specs.Numbered.{NumbersStm}
 
 apart : false ≡ true → ⊥
 apart h = cc
@@ -32,3 +33,10 @@ module _ (p : Program) where
   -- nothing of type void is read
   no_value : KeepsExp p (long ∷ []) (load (Base Void) (slot long 0)) → ⊥
   no_value h = apart h.1
+
+-- a statement's number is that of a place
+numbered : NumbersStm 1 (while_loop 0 (slot int 0) (break 0))
+numbered = (omega arith, omega arith)
+
+beyond : NumbersStm 1 (while_loop 0 (slot int 0) (break 1)) → ⊥
+beyond h = omega (arith, h.1)

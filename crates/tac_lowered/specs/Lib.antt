@@ -3,6 +3,7 @@ pub mod Code
 pub mod Expressions
 pub mod Items
 pub mod Lowered
+pub mod Numbered
 pub mod Operators
 pub mod Sound
 pub mod Statements

@@ -5,6 +5,7 @@ pub mod Calls
 pub mod Choosing
 pub mod Computing
 pub mod Constructs
+pub mod Costs
 pub mod Elements
 pub mod Emitted
 pub mod Entry

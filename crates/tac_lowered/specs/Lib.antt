@@ -7,3 +7,4 @@ pub mod Numbered
 pub mod Operators
 pub mod Sound
 pub mod Statements
+pub mod Weights

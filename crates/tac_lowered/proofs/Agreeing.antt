@@ -37,7 +37,7 @@ use Rattle.tac_lowered.proofs.Bytes.{bytes_are}
 use Rattle.tac_lowered.proofs.Lowering.{lowers}
 use Rattle.tac_lowered.proofs.Statements.{execs_do, zero_lies}
 use Rattle.tac_lowered.proofs.Calls.{Bodies, called_more}
-use Rattle.tac_lowered.proofs.Entry.{Agreeing, passed_agree, first_agree, set_all_long, zeros_long, map_get, place_kept}
+use Rattle.tac_lowered.proofs.Entry.{params_behind, Agreeing, passed_agree, first_agree, set_all_long, zeros_long, map_get, place_kept}
 use Rattle.tac_lowered.proofs.Prologue.{Arrived, arrives, stores_all}
 
 ff : false ≡ true → ⊥
@@ -95,7 +95,7 @@ module _ (p : typed.Program) (sound : KeepsProgram p) where
       last = Ret None;
       kinds = K.kinds;
       free = free_in p G;
-      enough = let e1 = K.many in omega (arith, e1);
+      enough = let e1 = K.many in let e2 = params_behind G.params G.slots in omega (arith, e1, e2);
       waiting = waiting;
       p = p;
       call = calls p n;
@@ -115,7 +115,7 @@ module _ (p : typed.Program) (sound : KeepsProgram p) where
     first = record { label = 0; count = 0 }
 
     slots_in : G.slots ≤ F.regs
-    slots_in = let e1 = at_least (items_of p G) (free_in p G) in omega (arith, e1)
+    slots_in = let e1 = at_least (items_of p G) (free_in p G) in let e2 = params_behind G.params G.slots in omega (arith, e1, e2)
 
     has : Has spot first (items (body_of p G) lp onward first ++ [])
     has = subst (λ is. Has spot first is) (sym (append-nil (items_of p G))) (record { stands = whole (nowhere p) (Ret None) (items_of p G); room = omega arith })

@@ -33,7 +33,7 @@ use Rattle.tac_lowered.specs.Items.{Item, Do, Close, ops_of, block_of, rest_of, 
 use Rattle.tac_lowered.specs.Operators.{moved, number, or_else, narrows, cut, converted, scaled, operated, given_by, assigned, sign}
 use Rattle.tac_lowered.specs.Expressions.{held, at, known, address, address_at, indexed, low, low_all, effects, test, are_quiet, is_quiet, width_in}
 use Rattle.tac_lowered.specs.Statements.{low_stm, low_stms, returned, test_part}
-use Rattle.tac_lowered.specs.Lowered.{nowhere, stored, all_stored, free_in, body_of, items_of, lowered_function}
+use Rattle.tac_lowered.specs.Lowered.{behind_home, nowhere, stored, all_stored, free_in, body_of, items_of, lowered_function}
 use Rattle.tac_lowered.specs.Weights.{weight, weights, weight_part, weight_stm, weight_stms, weight_function}
 
 -- ---- code
@@ -404,7 +404,7 @@ module _ (p : Program) where
 
   all_stored_cost : (qs : List Param) (r free : ℕ) → cost (all_stored p qs r free) ≤ 2 * length qs
   all_stored_cost [] r free = omega arith
-  all_stored_cost (q ∷ qs) r free = let e1 = stored_cost q.ty q.home r free in let e2 = all_stored_cost qs (r + 1) free in omega (arith, e1, e2)
+  all_stored_cost (q ∷ qs) r free = let e1 = stored_cost q.ty q.home r free in let e2 = all_stored_cost qs (behind_home q.home r) free in omega (arith, e1, e2)
 
   -- an item is an operation or an end, and the last block has an end of its own
   many_ops : (n : ℕ) (last : End) (is : List Item) → length (ops_of is) + sum_by block_ops (rest_of n last is) ≡ length is

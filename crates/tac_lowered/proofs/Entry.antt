@@ -1,5 +1,5 @@
 -- A function is entered: its registers are its variables, and its body runs.
-use Rattle.std.proofs.Common.{◌≡◌, ◌≢◌, ℕ, zero, suc, ◌+◌, ◌<◌, ◌≤◌, ℤ, pos, List, [], ◌∷◌, ◌++◌, length, map, Bool, true, false, refl, sym, ap, ◌∙◌, subst, arith, Some, get_or-set_same, get_or-set_other, nat_eq}
+use Rattle.std.proofs.Common.{◌≡◌, ◌≢◌, ℕ, zero, suc, ◌<◌, ◌≤◌, ℤ, pos, List, [], ◌∷◌, ◌++◌, length, map, Bool, true, false, refl, sym, ap, ◌∙◌, subst, arith, Some, get_or-set_same, get_or-set_other, nat_eq}
 use Rattle.std.specs.Prelude.{slice_get, slice_index_or, slice_set, replicate}
 use Rattle.std.proofs.Math.ListN.{length-set}
 use Rattle.std.proofs.lemmas.Bool.{eq-eqb, eqb-true}
@@ -12,7 +12,7 @@ use Rattle.c_typed.specs.declared.program.Home.TheVariants as h
 use Rattle.c_typed.specs.declared.program.Param.{Param}
 use Rattle.c_typed.specs.Values.{width_of}
 use Rattle.tac_core.specs.Meaning.{reg_of, set_all}
-use Rattle.tac_lowered.specs.Lowered.{home_in, params_in}
+use Rattle.tac_lowered.specs.Lowered.{behind_home, behind_params, home_in, params_in}
 use Rattle.tac_lowered.specs.Sound.{HasHome, HaveHomes}
 use Rattle.tac_lowered.proofs.Relation.{Lies, Suit}
 use Rattle.tac_lowered.proofs.Statements.{zero_lies}
@@ -21,6 +21,15 @@ ff : false ≡ true → ⊥
 ff h = cc
 
 -- ---- registers and slots
+
+-- registers behind those of parameters
+pub home_behind : (q : Home) (r : ℕ) → r ≤ behind_home q r
+home_behind (h.Slot k) r = omega arith
+home_behind (h.Frame offset) r = omega arith
+
+pub params_behind : (qs : List Param) (r : ℕ) → r ≤ behind_params qs r
+params_behind [] r = omega arith
+params_behind (q ∷ qs) r = let e1 = home_behind q.home r in let e2 = params_behind qs (behind_home q.home r) in omega (arith, e1, e2)
 
 module _ (kinds : List ValueType) where
   abbrev kind_at : ℕ → ValueType
@@ -83,8 +92,8 @@ module _ (kinds : List ValueType) where
   passed_agree frame [] (v ∷ vs) r regs slots le homes suit a = absurd suit
   passed_agree frame (q ∷ qs) [] r regs slots le homes suit a = absurd suit
   passed_agree frame (q ∷ qs) (v ∷ vs) r regs slots le homes suit a =
-      let le1 : length kinds ≤ r + 1 = omega arith in
-      passed_agree frame qs vs (r + 1) (slice_set regs (home_in q.home r) v) (set_in_slots q.home v slots) le1 homes.2 suit.1 (home_set frame q.ty q.home r v regs slots le homes.0 suit.0 a)
+      let le1 : length kinds ≤ behind_home q.home r = let e1 = home_behind q.home r in omega (arith, e1) in
+      passed_agree frame qs vs (behind_home q.home r) (slice_set regs (home_in q.home r) v) (set_in_slots q.home v slots) le1 homes.2 suit.1 (home_set frame q.ty q.home r v regs slots le homes.0 suit.0 a)
 
 pub set_all_long : (regs : List ℤ) (ps : List ℕ) (vs : List ℤ) → length (set_all regs ps vs) ≡ length regs
 set_all_long regs [] vs = refl

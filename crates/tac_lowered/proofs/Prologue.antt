@@ -1,5 +1,5 @@
 -- Parameters that live in the frame are stored there first.
-use Rattle.std.proofs.Common.{◌≡◌, ◌≢◌, ℕ, ◌+◌, ◌<◌, ◌≤◌, ◌%◌, ℤ, pos, List, [], ◌∷◌, ◌++◌, length, Bool, true, false, refl, sym, ap, ◌∙◌, arith, Some, None, get_or-set_same, get_or-set_other, w64}
+use Rattle.std.proofs.Common.{◌≡◌, suc, ◌≢◌, ℕ, ◌+◌, ◌<◌, ◌≤◌, ◌%◌, ℤ, pos, List, [], ◌∷◌, ◌++◌, length, Bool, true, false, refl, sym, ap, ◌∙◌, arith, Some, None, get_or-set_same, get_or-set_other, w64}
 use Rattle.std.specs.Prelude.{slice_set, nat_le, ◌==◌, ◌&&◌, ◌+ℤ◌, if◌then◌else◌}
 use Rattle.std.specs.Int.{cast_unsigned}
 use Rattle.std.proofs.Math.ListN.{length-set}
@@ -26,13 +26,13 @@ use Rattle.tac_core.specs.Meaning.{Does, effect_of, reg_of, stores, set_all}
 use Rattle.tac_lowered.specs.Code.{Code, does}
 use Rattle.tac_lowered.specs.Items.{Item, Open, goes, onward, Loop, items}
 use Rattle.tac_lowered.specs.Lowered as low
-use Rattle.tac_lowered.specs.Lowered.{home_in, params_in, all_stored, nowhere}
+use Rattle.tac_lowered.specs.Lowered.{behind_home, behind_params, home_in, params_in, all_stored, nowhere}
 use Rattle.tac_lowered.specs.Sound.{is_value, HasHome, HaveHomes}
 use Rattle.tac_lowered.proofs.Relation.{Spot, many, Suit, Match, Follows, Has}
 use Rattle.tac_lowered.proofs.Gives.{set_match, set_same, does_follows, sets_follows, first_has, second_has, both_follows, target_room}
 use Rattle.tac_lowered.proofs.Values.{own_address, bytes_same}
 use Rattle.tac_lowered.proofs.Computing.{again}
-use Rattle.tac_lowered.proofs.Entry.{there_is}
+use Rattle.tac_lowered.proofs.Entry.{home_behind, params_behind, there_is}
 
 -- ---- what came in a register
 
@@ -41,17 +41,17 @@ AtHome (hm.Slot k) r v regs = Unit {0}
 AtHome (hm.Frame offset) r v regs = reg_of regs r ≡ v
 
 abbrev pub Arrived : List Param → List ℤ → (r : ℕ) (regs : List ℤ) → Type 0
-Arrived (q ∷ qs) (v ∷ vs) r regs = AtHome q.home r v regs × Arrived qs vs (r + 1) regs
+Arrived (q ∷ qs) (v ∷ vs) r regs = AtHome q.home r v regs × Arrived qs vs (behind_home q.home r) regs
 Arrived qs vs r regs = Unit {0}
 
-arrived_set : (qs : List Param) (vs : List ℤ) (r j : ℕ) (x : ℤ) (regs : List ℤ) → r + length qs ≤ j → Arrived qs vs r regs → Arrived qs vs r (slice_set regs j x)
+arrived_set : (qs : List Param) (vs : List ℤ) (r j : ℕ) (x : ℤ) (regs : List ℤ) → behind_params qs r ≤ j → Arrived qs vs r regs → Arrived qs vs r (slice_set regs j x)
 arrived_set [] vs r j x regs le a = tt
 arrived_set (q ∷ qs) [] r j x regs le a = tt
-arrived_set (q ∷ qs) (v ∷ vs) r j x regs le a = (home q.home a.0, arrived_set qs vs (r + 1) j x regs (omega arith) a.1)
+arrived_set (q ∷ qs) (v ∷ vs) r j x regs le a = (home q.home (params_behind qs (behind_home q.home r)) a.0, arrived_set qs vs (behind_home q.home r) j x regs (omega (arith, le)) a.1)
   where
-    home : (q : Home) → AtHome q r v regs → AtHome q r v (slice_set regs j x)
-    home (hm.Slot k) b = tt
-    home (hm.Frame offset) b = let ne : r ≢ j = omega arith in get_or-set_other regs j r x (pos 0) ne ∙ b
+    home : (h : Home) → behind_home h r ≤ behind_params qs (behind_home q.home r) → AtHome h r v regs → AtHome h r v (slice_set regs j x)
+    home (hm.Slot k) e1 b = tt
+    home (hm.Frame offset) e1 b = let ne : r ≢ j = omega (arith, e1, le) in get_or-set_other regs j r x (pos 0) ne ∙ b
 
 module _ (kinds : List ValueType) (frame : ℕ) where
   home_below : (ty : ValueType) (q : Home) (r k : ℕ) → HasHome kinds frame ty q → length kinds ≤ k → k < r → k ≢ home_in q r
@@ -62,24 +62,24 @@ module _ (kinds : List ValueType) (frame : ℕ) where
   set_all_kept [] vs r k regs homes le lt = refl
   set_all_kept (q ∷ qs) [] r k regs homes le lt = refl
   set_all_kept (q ∷ qs) (v ∷ vs) r k regs homes le lt =
-      let up : k < r + 1 = omega arith in
-      set_all_kept qs vs (r + 1) k (slice_set regs (home_in q.home r) v) homes.2 le up ∙ get_or-set_other regs (home_in q.home r) k v (pos 0) (home_below q.ty q.home r k homes.0 le lt)
+      let up : k < behind_home q.home r = let e1 = home_behind q.home r in omega (arith, e1) in
+      set_all_kept qs vs (behind_home q.home r) k (slice_set regs (home_in q.home r) v) homes.2 le up ∙ get_or-set_other regs (home_in q.home r) k v (pos 0) (home_below q.ty q.home r k homes.0 le lt)
 
-  pub arrives : (qs : List Param) (vs : List ℤ) (r : ℕ) (regs : List ℤ) → HaveHomes kinds frame qs → length kinds ≤ r → r + length qs ≤ length regs → Arrived qs vs r (set_all regs (params_in qs r) vs)
+  pub arrives : (qs : List Param) (vs : List ℤ) (r : ℕ) (regs : List ℤ) → HaveHomes kinds frame qs → length kinds ≤ r → behind_params qs r ≤ length regs → Arrived qs vs r (set_all regs (params_in qs r) vs)
   arrives [] vs r regs homes le room = tt
   arrives (q ∷ qs) [] r regs homes le room = tt
   arrives (q ∷ qs) (v ∷ vs) r regs homes le room =
       let regs1 = slice_set regs (home_in q.home r) v in
-      let le1 : length kinds ≤ r + 1 = omega arith in
-      let room1 : r + 1 + length qs ≤ length regs1 = let e1 = length-set regs (home_in q.home r) v in omega (arith, e1) in
-      (home q.home homes.2, arrives qs vs (r + 1) regs1 homes.2 le1 room1)
+      let le1 : length kinds ≤ behind_home q.home r = let e1 = home_behind q.home r in omega (arith, e1) in
+      let room1 : behind_params qs (behind_home q.home r) ≤ length regs1 = let e1 = length-set regs (home_in q.home r) v in omega (arith, e1, room) in
+      (home q.home (params_behind qs (behind_home q.home r)) homes.2, arrives qs vs (behind_home q.home r) regs1 homes.2 le1 room1)
     where
-      home : (q : Home) → HaveHomes kinds frame qs → AtHome q r v (set_all (slice_set regs (home_in q r) v) (params_in qs (r + 1)) vs)
-      home (hm.Slot k) rest = tt
-      home (hm.Frame offset) rest =
-          let own : r < r + 1 = omega arith in
-          let long : r < length regs = omega arith in
-          set_all_kept qs vs (r + 1) r (slice_set regs r v) rest le own ∙ get_or-set_same regs r v (pos 0) long
+      home : (h : Home) → behind_home h r ≤ behind_params qs (behind_home q.home r) → HaveHomes kinds frame qs → AtHome h r v (set_all (slice_set regs (home_in h r) v) (params_in qs (behind_home h r)) vs)
+      home (hm.Slot k) e1 rest = tt
+      home (hm.Frame offset) e1 rest =
+          let own : r < suc r = omega arith in
+          let long : r < length regs = omega (arith, e1, room) in
+          set_all_kept qs vs (suc r) r (slice_set regs r v) rest le own ∙ get_or-set_same regs r v (pos 0) long
 
 -- ---- an access in the frame does not fault
 
@@ -126,7 +126,7 @@ in_frame base offset le = int_wrap_fits w64 (pos base +ℤ pos offset) (omega (a
 
 module _ (C : Spot) where
   -- each in turn
-  pub stores_all : (frame : ℕ) (qs : List Param) (vs : List ℤ) (r free : ℕ) → HaveHomes C.kinds frame qs → Suit qs vs → many C ≤ r → r + length qs ≤ free
+  pub stores_all : (frame : ℕ) (qs : List Param) (vs : List ℤ) (r free : ℕ) → HaveHomes C.kinds frame qs → Suit qs vs → many C ≤ r → behind_params qs r ≤ free
       → (lp : Loop) (o : Open) (rest : List Item) → Has C o (items (all_stored C.p qs r free) lp onward o ++ rest) → (regs : List ℤ) (t : e.State) (rep : Report) → Match C regs t → Arrived qs vs r regs → t.base + frame ≤ 1048576
       → ((regs' : List ℤ) → Match C regs' (record t { memory = frame_passed t.base qs vs t.memory }) → Follows C (goes (all_stored C.p qs r free) false o) rest regs' (record t { memory = frame_passed t.base qs vs t.memory }) rep)
       → Follows C o (items (all_stored C.p qs r free) lp onward o ++ rest) regs t rep
@@ -136,25 +136,25 @@ module _ (C : Spot) where
   stores_all frame (q ∷ qs) [] r free homes suit le room lp o rest h regs t rep mt arrived small next = absurd suit
   stores_all frame (q ∷ qs) (v ∷ vs) r free homes suit le room lp o rest h regs t rep mt arrived small next =
       both_follows C first others lp onward o rest regs t rep
-      (one q.home homes.0 lp o (items others lp onward (goes first false o) ++ rest) (first_has C first others lp onward o rest h) regs t mt arrived.0 arrived.1 small (λ regs1 m1 a1.
-      stores_all frame qs vs (r + 1) free homes.2 suit.1 (omega arith) (omega arith) lp (goes first false o) rest (second_has C first others lp onward o rest h) regs1 (record t { memory = set_in_frame t.base q.ty q.home v t.memory }) rep m1 a1 small next))
+      (one q.home (params_behind qs (behind_home q.home r)) homes.0 lp o (items others lp onward (goes first false o) ++ rest) (first_has C first others lp onward o rest h) regs t mt arrived.0 arrived.1 small (λ regs1 m1 a1.
+      stores_all frame qs vs (behind_home q.home r) free homes.2 suit.1 (let e1 = home_behind q.home r in omega (arith, e1, le)) (omega (arith, room)) lp (goes first false o) rest (second_has C first others lp onward o rest h) regs1 (record t { memory = set_in_frame t.base q.ty q.home v t.memory }) rep m1 a1 small next))
     where
       first : Code
       first = low.stored C.p q.ty q.home r free
 
       others : Code
-      others = all_stored C.p qs (r + 1) free
+      others = all_stored C.p qs (behind_home q.home r) free
 
-      one : (home : Home) → HasHome C.kinds frame q.ty home → (lp : Loop) (o : Open) (rest : List Item) → Has C o (items (low.stored C.p q.ty home r free) lp onward o ++ rest) → (regs : List ℤ) (t : e.State) → Match C regs t → AtHome home r v regs → Arrived qs vs (r + 1) regs → t.base + frame ≤ 1048576
-          → ((regs' : List ℤ) → Match C regs' (record t { memory = set_in_frame t.base q.ty home v t.memory }) → Arrived qs vs (r + 1) regs' → Follows C (goes (low.stored C.p q.ty home r free) false o) rest regs' (record t { memory = set_in_frame t.base q.ty home v t.memory }) rep)
+      one : (home : Home) → behind_home home r ≤ behind_params qs (behind_home q.home r) → HasHome C.kinds frame q.ty home → (lp : Loop) (o : Open) (rest : List Item) → Has C o (items (low.stored C.p q.ty home r free) lp onward o ++ rest) → (regs : List ℤ) (t : e.State) → Match C regs t → AtHome home r v regs → Arrived qs vs (behind_home q.home r) regs → t.base + frame ≤ 1048576
+          → ((regs' : List ℤ) → Match C regs' (record t { memory = set_in_frame t.base q.ty home v t.memory }) → Arrived qs vs (behind_home q.home r) regs' → Follows C (goes (low.stored C.p q.ty home r free) false o) rest regs' (record t { memory = set_in_frame t.base q.ty home v t.memory }) rep)
           → Follows C o (items (low.stored C.p q.ty home r free) lp onward o ++ rest) regs t rep
-      one (hm.Slot k) has lp o rest h regs t mt at later small next =
+      one (hm.Slot k) below has lp o rest h regs t mt at later small next =
           let f = next regs (record { slots = mt.slots; room = mt.room; same = mt.same; lies = mt.lies; top = mt.top; aligned = mt.aligned; above = mt.above; depth = mt.depth }) later in record { by = f.by }
-      one (hm.Frame offset) has lp o rest h regs t mt at later small next =
+      one (hm.Frame offset) below has lp o rest h regs t mt at later small next =
           both_follows C a b lp onward o rest regs t rep
           (sets_follows C n (FrameAddress free (pos offset)) lp onward o (items b lp onward (goes a false o) ++ rest) regs regs1 t rep h1 (frame_acts free offset t.base regs t.memory t.left)
           (does_follows C n (Store w free (pos 0) r) lp onward (goes a false o) rest regs1 regs1 t t' [] rep h2 effect refl (sym (append-nil t.out)) refl (λ bytes. bytes)
-          (next regs1 m1' (arrived_set qs vs (r + 1) free address regs (omega arith) later))))
+          (next regs1 m1' (arrived_set qs vs (behind_home q.home r) free address regs (omega (arith, room)) later))))
         where
           n : ℕ
           n = nowhere C.p
@@ -184,7 +184,7 @@ module _ (C : Spot) where
           h2 = second_has C a b lp onward o rest h
 
           up : many C ≤ free
-          up = omega arith
+          up = omega (arith, le, below, room)
 
           m1 : Match C regs1 t
           m1 = set_match C free address regs t up mt
@@ -205,7 +205,7 @@ module _ (C : Spot) where
           can = reachable q.ty t.base offset frame homes.1 mt.above mt.aligned has.0 has.1 small
 
           r_is : reg_of regs1 r ≡ v
-          r_is = let ne : r ≢ free = omega arith in get_or-set_other regs free r address (pos 0) ne ∙ at
+          r_is = let ne : r ≢ free = omega (arith, below, room) in get_or-set_other regs free r address (pos 0) ne ∙ at
 
           effect : effect_of (Store w free (pos 0) r) t.base regs1 t.memory t.left ≡ Does regs1 t'.memory t'.left []
           effect =

@@ -22,13 +22,13 @@ use Rattle.tac_core.specs.declared.code.End.TheVariants.{Jump, Branch, Call, Ret
 use Rattle.tac_core.specs.declared.code.TacFunc.{TacFunc}
 use Rattle.tac_core.specs.Rules.{IsRegister, IsGoodAct, IsGoodOp, Takes, IsGoodEnd, IsGoodBlock, IsGoodFunc, IsMain, IsName, IsValid, AreDistinct}
 use Rattle.tac_lowered.specs.Items.{Item, Do, Close, ops_of, end_of, stmt_of, block_of, rest_of, blocks, Open, fresh, counted, goes, onward, Loop}
-use Rattle.tac_lowered.specs.Lowered.{up_to, up_to_all, up_to_end, registers, home_in, params_in, nowhere, stored, all_stored, free_in, body_of, items_of, lowered_function, lowered}
+use Rattle.tac_lowered.specs.Lowered.{behind_home, behind_params, up_to, up_to_all, up_to_end, registers, home_in, params_in, nowhere, stored, all_stored, free_in, body_of, items_of, lowered_function, lowered}
 use Rattle.tac_lowered.specs.Sound.{HasHome, HaveHomes, slots_of, KeepsFunction, KeepsProgram}
 use Rattle.tac_lowered.specs.Numbered.{NumbersStm, NumbersStms, KeepsNumbers}
 use Rattle.tac_lowered.proofs.Geometry.{run, runs, up_least, do_least, close_least, at_least}
 use Rattle.tac_lowered.proofs.Shapes.{KeepsCode, Leads, Good, good_items}
 use Rattle.tac_lowered.proofs.Emitted.{at_base, stms_keep}
-use Rattle.tac_lowered.proofs.Entry.{map_get}
+use Rattle.tac_lowered.proofs.Entry.{home_behind, params_behind, map_get}
 
 -- ---- blocks of good items
 
@@ -114,26 +114,28 @@ many_blocks last o (Close s e ∷ is) = let e1 = many_blocks last (fresh o) is i
 
 params_long : (qs : List Param) (r : ℕ) → length (params_in qs r) ≡ length qs
 params_long [] r = refl
-params_long (q ∷ qs) r = ap suc (params_long qs (r + 1))
+params_long (q ∷ qs) r = ap suc (params_long qs (behind_home q.home r))
 
 module _ (kinds : List ValueType) (frame : ℕ) where
-  home_below : (ty : ValueType) (q : Home) (r n : ℕ) → HasHome kinds frame ty q → length kinds ≤ n → r < n → home_in q r < n
+  home_below : (ty : ValueType) (q : Home) (r n : ℕ) → HasHome kinds frame ty q → length kinds ≤ n → behind_home q r ≤ n → home_in q r < n
   home_below ty (h.Slot k) r n home le lt = let e1 = slice_get_within kinds k ty home in omega (arith, e1, le)
-  home_below ty (h.Frame offset) r n home le lt = lt
+  home_below ty (h.Frame offset) r n home le lt = omega (arith, lt)
 
-  params_below : (qs : List Param) (r n : ℕ) → HaveHomes kinds frame qs → length kinds ≤ n → r + length qs ≤ n → All (λ r. r < n) (params_in qs r)
+  params_below : (qs : List Param) (r n : ℕ) → HaveHomes kinds frame qs → length kinds ≤ n → behind_params qs r ≤ n → All (λ r. r < n) (params_in qs r)
   params_below [] r n homes le lt = All-nil (λ r. r < n)
-  params_below (q ∷ qs) r n homes le lt = All-cons (λ r. r < n) (home_in q.home r) (params_in qs (r + 1)) (home_below q.ty q.home r n homes.0 le (omega (arith, lt))) (params_below qs (r + 1) n homes.2 le (omega (arith, lt)))
+  params_below (q ∷ qs) r n homes le lt =
+      let e1 = params_behind qs (behind_home q.home r) in
+      All-cons (λ r. r < n) (home_in q.home r) (params_in qs (behind_home q.home r)) (home_below q.ty q.home r n homes.0 le (omega (arith, e1, lt))) (params_below qs (behind_home q.home r) n homes.2 le lt)
 
   -- a slot is none of the others, and none of the registers behind the slots
-  slot_apart : (k : ℕ) (ty : ValueType) (q : Home) (qs : List Param) (r : ℕ) → k < r → All (λ b. (k ≡ b) → ⊥) (slots_of (record { ty = ty; home = q } ∷ qs)) → (All (λ b. (k ≡ b) → ⊥) (slots_of qs) → All (λ b. k ≢ b) (params_in qs (r + 1)))
+  slot_apart : (k : ℕ) (ty : ValueType) (q : Home) (qs : List Param) (r : ℕ) → k < r → All (λ b. (k ≡ b) → ⊥) (slots_of (record { ty = ty; home = q } ∷ qs)) → (All (λ b. (k ≡ b) → ⊥) (slots_of qs) → All (λ b. k ≢ b) (params_in qs (behind_home q r)))
       → All (λ b. k ≢ b) (params_in (record { ty = ty; home = q } ∷ qs) r)
-  slot_apart k ty (h.Slot j) qs r lt others rest = All-cons (λ b. k ≢ b) j (params_in qs (r + 1)) (others 0 0 (omega arith)) (rest (λ i d li. others (suc i) d (omega (arith, li))))
-  slot_apart k ty (h.Frame offset) qs r lt others rest = All-cons (λ b. k ≢ b) r (params_in qs (r + 1)) (λ e. omega (arith, e, lt)) (rest others)
+  slot_apart k ty (h.Slot j) qs r lt others rest = All-cons (λ b. k ≢ b) j (params_in qs r) (others 0 0 (omega arith)) (rest (λ i d li. others (suc i) d (omega (arith, li))))
+  slot_apart k ty (h.Frame offset) qs r lt others rest = All-cons (λ b. k ≢ b) r (params_in qs (suc r)) (λ e. omega (arith, e, lt)) (rest others)
 
   slots_apart : (k : ℕ) (qs : List Param) (r : ℕ) → k < r → All (λ b. (k ≡ b) → ⊥) (slots_of qs) → All (λ b. k ≢ b) (params_in qs r)
   slots_apart k [] r lt others = All-nil (λ b. k ≢ b)
-  slots_apart k (q ∷ qs) r lt others = slot_apart k q.ty q.home qs r lt others (λ others. slots_apart k qs (r + 1) (omega (arith, lt)) others)
+  slots_apart k (q ∷ qs) r lt others = slot_apart k q.ty q.home qs r lt others (λ others. slots_apart k qs (behind_home q.home r) (let e1 = home_behind q.home r in omega (arith, e1, lt)) others)
 
   -- a register between the slots and those of later parameters
   between_home : (m : ℕ) (ty : ValueType) (q : Home) (r : ℕ) → length kinds ≤ m → m < r → HasHome kinds frame ty q → m ≢ home_in q r
@@ -142,18 +144,18 @@ module _ (kinds : List ValueType) (frame : ℕ) where
 
   between : (m : ℕ) (qs : List Param) (r : ℕ) → length kinds ≤ m → m < r → HaveHomes kinds frame qs → All (λ b. m ≢ b) (params_in qs r)
   between m [] r le lt homes = All-nil (λ b. m ≢ b)
-  between m (q ∷ qs) r le lt homes = All-cons (λ b. m ≢ b) (home_in q.home r) (params_in qs (r + 1)) (between_home m q.ty q.home r le lt homes.0) (between m qs (r + 1) le (omega (arith, lt)) homes.2)
+  between m (q ∷ qs) r le lt homes = All-cons (λ b. m ≢ b) (home_in q.home r) (params_in qs (behind_home q.home r)) (between_home m q.ty q.home r le lt homes.0) (between m qs (behind_home q.home r) le (let e1 = home_behind q.home r in omega (arith, e1, lt)) homes.2)
 
   one_distinct : (ty : ValueType) (q : Home) (qs : List Param) (r : ℕ) → length kinds ≤ r → HasHome kinds frame ty q → HaveHomes kinds frame qs → AllPairs (λ a b. (a ≡ b) → ⊥) (slots_of (record { ty = ty; home = q } ∷ qs))
-      → (AllPairs (λ a b. (a ≡ b) → ⊥) (slots_of qs) → AreDistinct (params_in qs (r + 1))) → AreDistinct (params_in (record { ty = ty; home = q } ∷ qs) r)
+      → (AllPairs (λ a b. (a ≡ b) → ⊥) (slots_of qs) → AreDistinct (params_in qs (behind_home q r))) → AreDistinct (params_in (record { ty = ty; home = q } ∷ qs) r)
   one_distinct ty (h.Slot k) qs r le home homes apart rest =
-      AllPairs-cons (λ a b. a ≢ b) k (params_in qs (r + 1)) (slots_apart k qs (r + 1) (let e1 = slice_get_within kinds k ty home in omega (arith, e1, le)) (λ i d li. apart 0 (suc i) d (omega arith) (omega (arith, li))))
+      AllPairs-cons (λ a b. a ≢ b) k (params_in qs r) (slots_apart k qs r (let e1 = slice_get_within kinds k ty home in omega (arith, e1, le)) (λ i d li. apart 0 (suc i) d (omega arith) (omega (arith, li))))
       (rest (λ i j d lt lj. apart (suc i) (suc j) d (omega (arith, lt)) (omega (arith, lj))))
-  one_distinct ty (h.Frame offset) qs r le home homes apart rest = AllPairs-cons (λ a b. a ≢ b) r (params_in qs (r + 1)) (between r qs (r + 1) le (omega arith) homes) (rest apart)
+  one_distinct ty (h.Frame offset) qs r le home homes apart rest = AllPairs-cons (λ a b. a ≢ b) r (params_in qs (suc r)) (between r qs (suc r) le (omega arith) homes) (rest apart)
 
   params_distinct : (qs : List Param) (r : ℕ) → length kinds ≤ r → HaveHomes kinds frame qs → AllPairs (λ a b. (a ≡ b) → ⊥) (slots_of qs) → AreDistinct (params_in qs r)
   params_distinct [] r le homes apart = λ i j d lt lj. let no : ⊥ = omega (arith, lj) in absurd no
-  params_distinct (q ∷ qs) r le homes apart = one_distinct q.ty q.home qs r le homes.0 homes.2 apart (λ apart. params_distinct qs (r + 1) (omega (arith, le)) homes.2 apart)
+  params_distinct (q ∷ qs) r le homes apart = one_distinct q.ty q.home qs r le homes.0 homes.2 apart (λ apart. params_distinct qs (behind_home q.home r) (let e1 = home_behind q.home r in omega (arith, e1, le)) homes.2 apart)
 
 -- ---- numbers of statements
 
@@ -208,7 +210,7 @@ module _ (p : typed.Program) (sound : KeepsProgram p) (numbers : KeepsNumbers p)
 
   all_stored_keep : (qs : List Param) (r free : ℕ) → KeepsCode places (Takes funcs) false (all_stored p qs r free)
   all_stored_keep [] r free = tt
-  all_stored_keep (q ∷ qs) r free = (stored_keeps q.ty q.home r free, all_stored_keep qs (r + 1) free)
+  all_stored_keep (q ∷ qs) r free = (stored_keeps q.ty q.home r free, all_stored_keep qs (behind_home q.home r) free)
 
   no_loop : false ≡ true → ⊥
   no_loop h = cc
@@ -218,7 +220,7 @@ module _ (p : typed.Program) (sound : KeepsProgram p) (numbers : KeepsNumbers p)
     named = name;
     entry = omega arith;
     few = let e1 = params_long f.params f.slots in let e2 = k.few in omega (arith, e1, e2);
-    params = params_below k.kinds f.frame f.params f.slots F.regs k.params (let e1 = k.many in omega (arith, e1, free)) (omega (arith, free));
+    params = params_below k.kinds f.frame f.params f.slots F.regs k.params (let e1 = k.many in let e2 = params_behind f.params f.slots in omega (arith, e1, e2, free)) free;
     distinct = params_distinct k.kinds f.frame f.params f.slots (let e1 = k.many in omega (arith, e1)) k.params k.apart;
     frame = k.small;
     aligned = k.rounded;

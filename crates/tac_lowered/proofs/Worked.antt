@@ -126,11 +126,11 @@ stored_first : lowered_function none (record {
 }) ≡ record {
   name = codes "f";
   params = 1 ∷ 0 ∷ [];
-  regs = 4;
+  regs = 3;
   frame = 16;
   blocks = record {
-    ops = record { stmt = 1; act = FrameAddress 3 (pos 8) } ∷ record { stmt = 1; act = Store W4 3 (pos 0) 1 } ∷ record { stmt = 0; act = FrameAddress 3 (pos 8) } ∷ record { stmt = 0; act = Load W4 3 3 (pos 0) } ∷ [];
-    «end» = Ret (Some 3);
+    ops = record { stmt = 1; act = FrameAddress 2 (pos 8) } ∷ record { stmt = 1; act = Store W4 2 (pos 0) 1 } ∷ record { stmt = 0; act = FrameAddress 2 (pos 8) } ∷ record { stmt = 0; act = Load W4 2 2 (pos 0) } ∷ [];
+    «end» = Ret (Some 2);
     end_stmt = 0;
   } ∷ record { ops = []; «end» = Ret None; end_stmt = 1 } ∷ [];
 }

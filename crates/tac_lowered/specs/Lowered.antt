@@ -1,5 +1,5 @@
 -- What a typed program is lowered to.
-use Rattle.std.specs.Prelude.{ℕ, suc, ◌+◌, max, pos, List, [], ◌∷◌, ◌++◌, length, map, Option, Some, None}
+use Rattle.std.specs.Prelude.{ℕ, suc, max, pos, List, [], ◌∷◌, ◌++◌, length, map, Option, Some, None}
 use Rattle.ib_act.specs.declared.act.Act.TheVariants.{FrameAddress, Store}
 use Rattle.ib_act.specs.Acts.{target, first_source, second_source}
 use Rattle.c_typed.specs.declared.types.ValueType.{ValueType}
@@ -47,9 +47,19 @@ abbrev pub home_in : Home → (r : ℕ) → ℕ
 home_in (h.Slot k) r = k
 home_in (h.Frame offset) r = r
 
+-- the first that is free behind it
+abbrev pub behind_home : Home → (r : ℕ) → ℕ
+behind_home (h.Slot k) r = r
+behind_home (h.Frame offset) r = suc r
+
 abbrev pub params_in : List Param → (r : ℕ) → List ℕ
 params_in [] r = []
-params_in (q ∷ qs) r = home_in q.home r ∷ params_in qs (r + 1)
+params_in (q ∷ qs) r = home_in q.home r ∷ params_in qs (behind_home q.home r)
+
+-- the first that is free behind all of them
+abbrev pub behind_params : List Param → (r : ℕ) → ℕ
+behind_params [] r = r
+behind_params (q ∷ qs) r = behind_params qs (behind_home q.home r)
 
 module _ (p : typed.Program) where
   -- what belongs to no statement is of the place behind the last, 1:1
@@ -63,11 +73,11 @@ module _ (p : typed.Program) where
 
   abbrev pub all_stored : List Param → (r free : ℕ) → Code
   all_stored [] r free = nothing
-  all_stored (q ∷ qs) r free = stored q.ty q.home r free ⨾ all_stored qs (r + 1) free
+  all_stored (q ∷ qs) r free = stored q.ty q.home r free ⨾ all_stored qs (behind_home q.home r) free
 
   -- Registers: the slots, those that parameters in the frame come in, and those behind.
   abbrev pub free_in : Function → ℕ
-  free_in f = f.slots + length f.params
+  free_in f = behind_params f.params f.slots
 
   abbrev pub body_of : Function → Code
   body_of f = all_stored f.params f.slots (free_in f) ⨾ low_stms p f.body (free_in f)

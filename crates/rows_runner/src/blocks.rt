@@ -161,12 +161,18 @@ fn crossed(alloc: Global, plans: &[Plan], table: &Table) -> Result<Vec<Plan>, Al
 }
 
 fn with_row(alloc: Global, plan: &Plan, names: &str, row: &str) -> Result<Plan, AllocError> {
+    let body = filled_by(alloc, plan, names, row)?;
     let title = format!(in alloc; "{} [{row}]", plan.title)?;
+    Ok(Plan { title, body })
+}
+
+/// The body with the row's texts in place of the names of their columns.
+fn filled_by(alloc: Global, plan: &Plan, names: &str, row: &str) -> Result<String, AllocError> {
     let mut body = plan.body.clone()?;
     let mut values = row.split("=>");
     for name in names.split("=>") {
         let value = values.next().unwrap_or("");
         body = filled(alloc, body.as_str(), name.trim(), value.trim())?;
     }
-    Ok(Plan { title, body })
+    Ok(body)
 }

@@ -42,32 +42,31 @@ fn key_of(head: &str) -> Option<(&str, &str)> {
 }
 
 impl Case {
-    /// Takes a text, which is given above the calls, and left by the call below which it stands.
-    fn take_text(&mut self, text: Text) -> Result<bool, AllocError> {
-        let key = text.key.as_str();
-        match self.calls.last_mut() {
-            None => {
-                let is_left = key == "prints" || key == "left";
-                let may_stand = !is_left && text_of(&self.given, key).is_none();
-                self.given.push(text)?;
-                Ok(may_stand)
-            }
-            Some(call) => {
-                let may_stand = key != "input" && text_of(&call.leaves, key).is_none();
-                call.leaves.push(text)?;
-                Ok(may_stand)
-            }
+    /// Whether a text may stand here: above the calls it is given, below one it is left by it.
+    fn may_stand(&self, key: &str) -> bool {
+        match self.calls.last() {
+            None => key != "prints" && key != "left" && text_of(&self.given, key).is_none(),
+            Some(call) => key != "input" && text_of(&call.leaves, key).is_none(),
         }
+    }
+
+    /// Takes a text, which is given above the calls, and left by the call below which it stands.
+    fn push_text(&mut self, text: Text) -> Result<(), AllocError> {
+        match self.calls.last_mut() {
+            None => self.given.push(text)?,
+            Some(call) => call.leaves.push(text)?,
+        }
+        Ok(())
     }
 
     fn take(&mut self, alloc: Global, field: &Field) -> Result<(), Unread> {
         if let Some((key, rest)) = key_of(field.head.as_str()) {
+            if !self.may_stand(key) {
+                return Err(unreadable(&field.head));
+            }
             let bytes = content(alloc, rest, field)?;
             let key = String::from_str(alloc, key)?;
-            return match self.take_text(Text { key, bytes })? {
-                true => Ok(()),
-                false => Err(unreadable(&field.head)),
-            };
+            return Ok(self.push_text(Text { key, bytes })?);
         }
         if field.has_inside {
             return Err(unreadable(&field.head));

@@ -21,15 +21,20 @@ pub(crate) fn fields(alloc: Global, body: &str) -> Result<Vec<Field>, AllocError
         }
         match (line.strip_prefix("    "), fields.last_mut()) {
             (Some(text), Some(field)) => push_inside(field, blanks, text)?,
-            _ => fields.push(Field {
-                head: String::from_str(alloc, line)?,
-                inside: String::new(alloc),
-                has_inside: false,
-            })?,
+            _ => fields.push(headed(alloc, line)?)?,
         }
         blanks = 0;
     }
     Ok(fields)
+}
+
+/// A field with nothing below its line yet.
+fn headed(alloc: Global, line: &str) -> Result<Field, AllocError> {
+    Ok(Field {
+        head: String::from_str(alloc, line)?,
+        inside: String::new(alloc),
+        has_inside: false,
+    })
 }
 
 fn push_inside(field: &mut Field, blanks: usize, text: &str) -> Result<(), AllocError> {

@@ -1,5 +1,5 @@
 use crate::calls::{Line, note, read_failing, read_line, words};
-use crate::cases::{Asked, Case, case_of, text_of};
+use crate::cases::{Asked, Case, Text, case_of, text_of};
 use crate::command::Command;
 use crate::plan::Plan;
 use crate::unread::{Unread, unreadable};
@@ -13,22 +13,33 @@ pub(crate) struct Found {
     pub wrong: Vec<String>,
 }
 
+impl Found {
+    /// Counts a call, and keeps what is wrong of it.
+    fn add(&mut self, wrong: Option<String>) -> Result<(), AllocError> {
+        self.calls = self.calls.saturating_add(1);
+        if let Some(wrong) = wrong {
+            self.wrong.push(wrong)?;
+        }
+        Ok(())
+    }
+}
+
 /// Tries the calls of a case, each over a host of its own. A case without calls is not as stated.
 pub(crate) fn tried<C: Command>(alloc: Global, command: &C, plan: &Plan) -> Result<Found, Unread> {
     let case = case_of(alloc, plan.body.as_str())?;
+    tried_calls(alloc, command, &case)
+}
+
+fn tried_calls<C: Command>(alloc: Global, command: &C, case: &Case) -> Result<Found, Unread> {
     let mut found = Found {
         calls: 0,
         wrong: Vec::new(alloc),
     };
-    for call in &case.calls {
-        found.calls = found.calls.saturating_add(1);
-        if let Some(wrong) = difference(alloc, command, &case, call)? {
-            found.wrong.push(wrong)?;
-        }
-    }
     if case.calls.is_empty() {
-        found.calls = 1;
-        found.wrong.push(String::from_str(alloc, "no call")?)?;
+        found.add(Some(String::from_str(alloc, "no call")?))?;
+    }
+    for call in &case.calls {
+        found.add(difference(alloc, command, case, call)?)?;
     }
     Ok(found)
 }
@@ -43,27 +54,48 @@ fn difference<C: Command>(
     let Some(line) = read_line(call.line.as_str()) else {
         return Err(unreadable(&call.line));
     };
-    let stated = note(alloc, line.note, &call.line)?;
-    let words = words(alloc, line.words)?;
-    let mut host = host(alloc, case)?;
-    if !plan_failures(&mut host, line.failing)? {
-        return Err(unreadable(&call.line));
-    }
-    let status = command.call(alloc, words.as_slice(), &mut host);
-    drop(words);
-    Ok(first_wrong(alloc, call, &line, stated.as_slice(), status, &host)?)
-}
-
-/// A host with what is given.
-fn host(alloc: Global, case: &Case) -> Result<MemHost, AllocError> {
     let input = text_of(&case.given, "input").unwrap_or(b"");
     let mut host = MemHost::new(alloc, input)?;
-    for text in &case.given {
+    difference_over(alloc, command, case, call, &line, &mut host)
+}
+
+/// The same over a new host with the input, so that no host is dropped where a step breaks off.
+fn difference_over<C: Command>(
+    alloc: Global,
+    command: &C,
+    case: &Case,
+    call: &Asked,
+    line: &Line<'_>,
+    host: &mut MemHost,
+) -> Result<Option<String>, Unread> {
+    add_files(host, &case.given)?;
+    if !plan_failures(host, line.failing)? {
+        return Err(unreadable(&call.line));
+    }
+    let status = status_of(alloc, command, line.words, host)?;
+    let stated = note(alloc, line.note, &call.line)?;
+    Ok(first_wrong(alloc, call, line, stated.as_slice(), status, host)?)
+}
+
+/// Gives the host the files of a case.
+fn add_files(host: &mut MemHost, given: &[Text]) -> Result<(), AllocError> {
+    for text in given {
         if text.key.as_str() != "input" {
             host.add_file(text.key.as_str(), text.bytes.as_slice())?;
         }
     }
-    Ok(host)
+    Ok(())
+}
+
+/// Calls the command with the words of a line.
+fn status_of<C: Command>(
+    alloc: Global,
+    command: &C,
+    line: &str,
+    host: &mut MemHost,
+) -> Result<u8, AllocError> {
+    let words = words(alloc, line)?;
+    Ok(command.call(alloc, words.as_slice(), host))
 }
 
 /// Lets the host fail as the text says, and gives whether it can be read.

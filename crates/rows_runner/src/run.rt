@@ -18,15 +18,30 @@ fn is_wrong(name: &str) -> bool {
     name.ends_with(".wrong")
 }
 
+/// Lists a file where it has rows.
+fn list(alloc: Global, file: &str, names: &mut Vec<String>) -> io::Result<()> {
+    if file.ends_with(".rows") || is_wrong(file) {
+        names.push(String::from_str(alloc, file)?)?;
+    }
+    Ok(())
+}
+
+fn list_folder(
+    rt: &HostRuntime,
+    alloc: Global,
+    folder: &str,
+    names: &mut Vec<String>,
+) -> io::Result<()> {
+    for entry in fs::read_dir(rt, folder)? {
+        list(alloc, entry?.file_name(), names)?;
+    }
+    Ok(())
+}
+
 /// The files with rows, in the order of their names.
 fn names(rt: &HostRuntime, alloc: Global, folder: &str) -> io::Result<Vec<String>> {
     let mut names = Vec::new(alloc);
-    for entry in fs::read_dir(rt, folder)? {
-        let entry = entry?;
-        if entry.file_name().ends_with(".rows") || is_wrong(entry.file_name()) {
-            names.push(String::from_str(alloc, entry.file_name())?)?;
-        }
-    }
+    list_folder(rt, alloc, folder, &mut names)?;
     names.sort()?;
     Ok(names)
 }
@@ -75,7 +90,27 @@ fn run_plan<C: Command>(
     }
 }
 
-/// Runs the rows of a file.
+/// Runs the rows of a text.
+fn run_text<C: Command>(
+    rt: &HostRuntime,
+    alloc: Global,
+    command: &C,
+    name: &str,
+    text: &str,
+) -> io::Result<Tally> {
+    let mut tally = Tally { tried: 0, wrong: 0 };
+    let mut blocks = Blocks::new(alloc);
+    for (at, line) in text.lines().enumerate() {
+        if blocks.is_ended_by(line) {
+            run_block(rt, alloc, command, name, &mut blocks, &mut tally)?;
+        }
+        blocks.read(at, line)?;
+    }
+    run_block(rt, alloc, command, name, &mut blocks, &mut tally)?;
+    Ok(tally)
+}
+
+/// Runs the rows of a file, and prints their count.
 fn run_file<C: Command>(
     rt: &HostRuntime,
     alloc: Global,
@@ -83,20 +118,16 @@ fn run_file<C: Command>(
     folder: &str,
     name: &str,
 ) -> io::Result<Tally> {
-    let path = format!(in alloc; "{folder}/{name}")?;
-    let text = fs::read_to_string(rt, path.as_str())?;
-    let mut tally = Tally { tried: 0, wrong: 0 };
-    let mut blocks = Blocks::new(alloc);
-    for (at, line) in text.as_str().lines().enumerate() {
-        if blocks.is_ended_by(line) {
-            run_block(rt, alloc, command, name, &mut blocks, &mut tally)?;
-        }
-        blocks.read(at, line)?;
-    }
-    run_block(rt, alloc, command, name, &mut blocks, &mut tally)?;
+    let text = read_file(rt, alloc, folder, name)?;
+    let tally = run_text(rt, alloc, command, name, text.as_str())?;
     let (tried, wrong) = (tally.tried, tally.wrong);
     println!(rt; "{name}: {tried} calls, {wrong} not as stated")?;
     Ok(tally)
+}
+
+fn read_file(rt: &HostRuntime, alloc: Global, folder: &str, name: &str) -> io::Result<String> {
+    let path = format!(in alloc; "{folder}/{name}")?;
+    fs::read_to_string(rt, path.as_str())
 }
 
 /// Runs the rows of all files of a folder, prints each call that does not come out as stated, and a count for each

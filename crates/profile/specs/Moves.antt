@@ -1,8 +1,7 @@
 -- How a running program calls a function and goes back.
-use Rattle.std.specs.Prelude.{◌≡◌, ℕ, ◌+◌, ℤ, Bool, true, not, List, [], ◌∷◌, Option, Some, None, length, map, slice_get}
+use Rattle.std.specs.Prelude.{◌≡◌, ℕ, ◌+◌, ℤ, Bool, true, not, List, [], ◌∷◌, Option, length, map, slice_get}
 use Rattle.tac_core.specs.Meaning.{Waiting, frame_of, overflows, call, reg_of, do_return}
 use Rattle.profile.specs.declared.progress.Progress.{Progress}
-use Rattle.profile.specs.declared.progress.Progress.TheVariants.{Going, Done}
 use Rattle.profile.specs.Running.{Did}
 use Rattle.profile.specs.Sound.{Running, state_of}
 
@@ -19,11 +18,7 @@ pub record WasCalled (r new : Running) (dest : Option ℕ) (callee : ℕ) (args 
   pub fits : overflows (length r.waiting) (top_of r) (frame_of (slice_get r.program.funcs callee)) ≡ not called
   pub state : called ≡ true → state_of new ≡ call r.program.funcs callee (top_of r) (map (reg_of r.here.regs) args) (waits r dest next ∷ r.waiting) r.memory
 
-abbrev pub progress_of : Option ℤ → Progress
-progress_of None = Going
-progress_of (Some number) = Done number
-
 -- the number went to the call that waits, or it is the result
-abbrev pub WasGivenBack : Running → Running → (number : ℤ) → Option ℤ → (input : List ℕ) → Type 0
-WasGivenBack r new number result input =
-    Did (do_return r.program.funcs number r.waiting r.memory input) (state_of new) (progress_of result) input []
+abbrev pub WasGivenBack : Running → Running → (number : ℤ) → Progress → (input : List ℕ) → Type 0
+WasGivenBack r new number progress input =
+    Did (do_return r.program.funcs number r.waiting r.memory input) (state_of new) progress input []

@@ -48,12 +48,12 @@ fn run_within<H: Host>(
 /// The counts of a run that came out.
 fn counted(
     alloc: Global,
-    tallies: Tallies,
+    tallies: &Tallies,
     outcome: Outcome,
 ) -> Result<(Outcome, Counts), AllocError>
     ensures outcome { IfOk result (λ run. run.0 ≡ outcome) }
-    ensures counts { IfOk result (λ run. run.1 ≡ map taken_of tallies) }
-    ensures kept { All AreTallies tallies }
+    ensures counts { IfOk result (λ run. run.1 ≡ map taken_of tallies.now) }
+    ensures kept { All AreTallies tallies.now }
 {
     let counts = tallies.counts(alloc)?;
     Ok((outcome, counts))
@@ -78,9 +78,11 @@ pub fn run_counting<H: Host>(
         Ok(started) => started,
         Err(error) => return Err(RunErr::from(error)),
     };
-    match run_within(alloc, &mut run, &mut tallies, host, budget) {
+    let ran = run_within(alloc, &mut run, &mut tallies, host, budget);
+    drop(run);
+    match ran {
         Err(error) => Err(error),
-        Ok(outcome) => match counted(alloc, tallies, outcome) {
+        Ok(outcome) => match counted(alloc, &tallies, outcome) {
             Ok(run) => Ok(run),
             Err(error) => Err(RunErr::from(error)),
         },

@@ -1,4 +1,4 @@
-ghost use Rattle.std.specs.Prelude.{◌≡◌, ◌≢◌, ◌<◌, ◌≤◌, ◌+◌, List, ℕ, [], ◌∷◌, Some, length, slice_get, IsTrue, IsNone, IfOk, OnOk, OnErr, IsErrOf};
+ghost use Rattle.std.specs.Prelude.{◌≡◌, ◌≢◌, ◌<◌, ◌≤◌, ◌+◌, List, ℕ, [], ◌∷◌, Some, length, slice_get, IsTrue, IfOk, OnOk, OnErr, IsErrOf};
 ghost use Rattle.std.specs.List.{All};
 ghost use Rattle.ib_base.specs.Cause.{HasCause, RunCause};
 ghost use Rattle.ib_run.specs.OverHost.{OverHost};
@@ -6,7 +6,7 @@ ghost use Rattle.tac_core.specs.Meaning.{In, place_of, go, do_end_of, do_return,
 ghost use Rattle.tac_core.specs.Program.{main_of};
 ghost use Rattle.tac_core.specs.Rules.{IsRegister, IsGoodEnd, Takes};
 ghost use Rattle.profile.specs.Counting.{start_of, crossed, entered, end_crosses, end_enters, return_crosses};
-ghost use Rattle.profile.specs.Moves.{WasCalled, WasGivenBack};
+ghost use Rattle.profile.specs.Moves.{WasCalled, WasGivenBack, waits};
 ghost use Rattle.profile.specs.Running.{Steps, StepsPart, Did};
 ghost use Rattle.profile.specs.Sound.{IsSound, IsBlock, IsGoodEndOf, state_of};
 ghost use Rattle.profile.specs.Tallies.{tallied, tallied_crossing, tallied_entry};
@@ -119,23 +119,33 @@ impl<'a> Execution<'a> {
             return Ok(false);
         }
         let regs = callee_regs(alloc, func, self.here.regs.as_slice(), args)?;
-        let outer = mem::replace(&mut self.here, enter(self.tac, callee, 0, top, regs));
-        self.waiting.push(outer.waiting(dest, next))?;
+        let called = enter(self.tac, callee, 0, top, regs);
+        self.wait_for(called, dest, next)?;
         self.memory.clear(top, func.frame);
         Ok(true)
     }
 
+    /// Lets the call at hand wait for another.
+    fn wait_for(&mut self, called: Call<'a>, dest: Option<u32>, next: u32) -> Result<(), AllocError>
+        ensures program { self.new.program ≡ self.old.program }
+        ensures ok { OnOk result (self.new ≡ record { program = self.old.program; here = called.entry; waiting = waits self.old dest next ∷ self.old.waiting; memory = self.old.memory }) }
+    {
+        let outer = mem::replace(&mut self.here, called);
+        self.waiting.push(outer.waiting(dest, next))?;
+        Ok(())
+    }
+
     /// Goes back to the call that waits, or ends with the number.
-    fn give_back(&mut self, number: i64, tallies: &mut Tallies) -> Option<i32>
+    fn give_back(&mut self, number: i64, tallies: &mut Tallies) -> Progress
         requires sound { IsSound self.old }
         requires many { length tallies.old ≡ length self.old.program.funcs }
         ensures program { self.new.program ≡ self.old.program }
         ensures back { (input : List ℕ) → WasGivenBack self.old self.new number result input }
-        ensures sound { IsNone result → IsSound self.new }
+        ensures sound { result ≡ Progress.Going → IsSound self.new }
         ensures tallies { tallies.new ≡ tallied_crossing (return_crosses self.old.waiting) tallies.old }
     {
         match self.waiting.pop() {
-            None => Some(result_of(number)),
+            None => Progress::Done(result_of(number)),
             Some(w) => {
                 let Pending {
                     func,
@@ -149,7 +159,7 @@ impl<'a> Execution<'a> {
                 set_in(&mut regs, dest, number);
                 tallies.cross(func, label, next);
                 self.here = enter(self.tac, func, next, base, regs);
-                None
+                Progress::Going
             }
         }
     }
@@ -223,10 +233,7 @@ impl<'a> Execution<'a> {
             }
             End::Ret(reg) => {
                 let number = number_in(self.here.regs.as_slice(), *reg);
-                match self.give_back(number, tallies) {
-                    None => Ok(Progress::Going),
-                    Some(result) => Ok(Progress::Done(result)),
-                }
+                Ok(self.give_back(number, tallies))
             }
         }
     }

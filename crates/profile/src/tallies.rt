@@ -135,8 +135,9 @@ impl Tallies {
     }
 
     /// The counts of what was entered and taken.
-    pub(crate) fn counts(self, alloc: Global) -> Result<Counts, AllocError>
-        ensures { IfOk result (λ counts. counts ≡ map taken_of self) }
+    pub(crate) fn counts(&self, alloc: Global) -> Result<Counts, AllocError>
+        ensures counts { IfOk result (λ counts. counts ≡ map taken_of self.now) }
+        ensures kept { All AreTallies self.now }
     {
         let mut funcs = Items::new(alloc);
         for tally in &self.funcs {

@@ -28,15 +28,25 @@ fn main(rt: HostRuntime) -> ExitCode {
 }
 
 fn outcome(alloc: Global) -> Result<SimOutcome, SimErr> {
-    let mut host = MemHost::new(alloc, b"")?;
-    let code = counting(alloc)?;
-    match code.text_lines() {
-        Some(_) => match WideCode::<Four>::validate(alloc, code) {
-            Ok(code) => simulate(alloc, &code, &mut host, CYCLES),
-            Err(_) => Err(SimErr::NoMemory),
-        },
-        None => Err(SimErr::NoMemory),
+    let code = valid(alloc, counting(alloc)?)?;
+    run(alloc, &code)
+}
+
+/// The code, which keeps the rules of the machine.
+fn valid(alloc: Global, code: RawCode) -> Result<WideCode<Four>, SimErr> {
+    if code.text_lines().is_none() {
+        drop(code);
+        return Err(SimErr::NoMemory);
     }
+    match WideCode::<Four>::validate(alloc, code) {
+        Ok(code) => Ok(code),
+        Err(_) => Err(SimErr::NoMemory),
+    }
+}
+
+fn run(alloc: Global, code: &WideCode<Four>) -> Result<SimOutcome, SimErr> {
+    let mut host = MemHost::new(alloc, b"")?;
+    simulate(alloc, code, &mut host, CYCLES)
 }
 
 /// `main` counts its register 0 up to the number of turns, and returns it.

@@ -5,16 +5,22 @@ use sqlite_items::Items;
 use std::alloc::{AllocError, Global};
 use tac_core::{Act, Block, Counts, End, Regs, Size, TacFunc, TacOp, TacProgram};
 
-fn block(alloc: Global, acts: &[Act], end: End) -> Result<Block, AllocError> {
+fn ops_of(alloc: Global, acts: &[Act]) -> Result<Items<TacOp>, AllocError> {
     let mut ops = Items::new(alloc);
     for act in acts {
         ops.push(TacOp { stmt: 0, act: *act })?;
     }
-    Ok(Block {
+    Ok(ops)
+}
+
+/// Appends a block.
+fn add(blocks: &mut Vec<Block>, ops: Items<TacOp>, end: End) -> Result<(), AllocError> {
+    blocks.push(Block {
         ops,
         end,
         end_stmt: 1,
-    })
+    })?;
+    Ok(())
 }
 
 fn func(alloc: Global, name: &[u8], blocks: Vec<Block>) -> Result<TacFunc, AllocError> {
@@ -30,6 +36,23 @@ fn func(alloc: Global, name: &[u8], blocks: Vec<Block>) -> Result<TacFunc, Alloc
 fn program(alloc: Global, funcs: Vec<TacFunc>) -> Result<Option<TacProgram>, AllocError> {
     let places = vec![in alloc; Place { line: 3, col: 5 }, Place { line: 4, col: 7 }]?;
     Ok(TacProgram::assemble(Vec::new(alloc), places, funcs))
+}
+
+/// A program of `main` alone.
+fn main_alone(alloc: Global, blocks: Vec<Block>) -> Result<Option<TacProgram>, AllocError> {
+    let mut funcs = Vec::new(alloc);
+    funcs.push(func(alloc, b"main", blocks)?)?;
+    program(alloc, funcs)
+}
+
+/// A call without arguments.
+fn call(alloc: Global, dest: Option<u32>, func: u32, next: u32) -> End {
+    End::Call {
+        dest,
+        func,
+        args: Regs::keep(SmallVec::new(alloc)),
+        next,
+    }
 }
 
 /// Three turns of a loop that counts to 3.
@@ -52,35 +75,27 @@ fn loop_of_three(alloc: Global) -> Result<Option<TacProgram>, AllocError> {
             right: 1,
         },
     ];
+    let mut blocks = Vec::new(alloc);
+    add(&mut blocks, ops_of(alloc, &first)?, End::Jump(1))?;
+    let ops = ops_of(alloc, &turn)?;
     let again = End::Branch {
         reg: 3,
         yes: 1,
         no: 2,
     };
-    let blocks = vec![in alloc;
-        block(alloc, &first, End::Jump(1))?,
-        block(alloc, &turn, again)?,
-        block(alloc, &[], End::Ret(Some(0)))?,
-    ]?;
-    let main = func(alloc, b"main", blocks)?;
-    program(alloc, vec![in alloc; main]?)
+    add(&mut blocks, ops, again)?;
+    add(&mut blocks, Items::new(alloc), End::Ret(Some(0)))?;
+    main_alone(alloc, blocks)
 }
 
 /// `main` reads a number and writes it, then calls itself.
 fn echo_for_ever(alloc: Global) -> Result<Option<TacProgram>, AllocError> {
     let echo = [Act::Get { to: 0 }, Act::PutNumber { from: 0 }];
-    let call = End::Call {
-        dest: None,
-        func: 0,
-        args: Regs::keep(SmallVec::new(alloc)),
-        next: 1,
-    };
-    let blocks = vec![in alloc;
-        block(alloc, &echo, call)?,
-        block(alloc, &[], End::Ret(None))?,
-    ]?;
-    let main = func(alloc, b"main", blocks)?;
-    program(alloc, vec![in alloc; main]?)
+    let mut blocks = Vec::new(alloc);
+    let ops = ops_of(alloc, &echo)?;
+    add(&mut blocks, ops, call(alloc, None, 0, 1))?;
+    add(&mut blocks, Items::new(alloc), End::Ret(None))?;
+    main_alone(alloc, blocks)
 }
 
 /// `main` divides by zero in a function that it calls a second time.
@@ -94,22 +109,21 @@ fn quotient(alloc: Global) -> Result<Option<TacProgram>, AllocError> {
             right: 0,
         },
     ];
-    let call = |next| End::Call {
-        dest: Some(0),
-        func: 1,
-        args: Regs::keep(SmallVec::new(alloc)),
-        next,
-    };
-    let main = vec![in alloc;
-        block(alloc, &[], call(1))?,
-        block(alloc, &[], call(2))?,
-        block(alloc, &[], End::Ret(None))?,
-    ]?;
-    let divides = vec![in alloc; block(alloc, &divide, End::Ret(Some(1)))?]?;
-    program(
-        alloc,
-        vec![in alloc; func(alloc, b"main", main)?, func(alloc, b"f", divides)?]?,
-    )
+    let mut funcs = Vec::new(alloc);
+    funcs.push(func(alloc, b"main", two_calls(alloc)?)?)?;
+    let mut blocks = Vec::new(alloc);
+    add(&mut blocks, ops_of(alloc, &divide)?, End::Ret(Some(1)))?;
+    funcs.push(func(alloc, b"f", blocks)?)?;
+    program(alloc, funcs)
+}
+
+/// Blocks that call the second function twice, and return.
+fn two_calls(alloc: Global) -> Result<Vec<Block>, AllocError> {
+    let mut blocks = Vec::new(alloc);
+    add(&mut blocks, Items::new(alloc), call(alloc, Some(0), 1, 1))?;
+    add(&mut blocks, Items::new(alloc), call(alloc, Some(0), 1, 2))?;
+    add(&mut blocks, Items::new(alloc), End::Ret(None))?;
+    Ok(blocks)
 }
 
 /// How a run has to come out: its outcome, how many bytes it prints, how often functions are entered, and how often edges
@@ -144,12 +158,21 @@ fn comes_out(
     wanted: Wanted<'_>,
 ) -> Result<bool, AllocError> {
     let mut host = MemHost::new(alloc, input)?;
-    match run_counting(alloc, tac, &mut host, budget) {
-        Ok((outcome, counts)) => {
-            let has = has(&counts, wanted);
-            Ok(has && outcome == wanted.outcome && host.output().len() == wanted.printed)
-        }
-        Err(_) => Ok(false),
+    let counted = is_counted(alloc, tac, &mut host, budget, wanted);
+    Ok(counted && host.output().len() == wanted.printed)
+}
+
+/// Whether a run has this outcome and these counts.
+fn is_counted(
+    alloc: Global,
+    tac: &TacProgram,
+    host: &mut MemHost,
+    budget: u64,
+    wanted: Wanted<'_>,
+) -> bool {
+    match run_counting(alloc, tac, host, budget) {
+        Ok((outcome, counts)) => outcome == wanted.outcome && has(&counts, wanted),
+        Err(_) => false,
     }
 }
 

@@ -50,13 +50,11 @@ fn loop_program(alloc: Global) -> Result<Option<TacProgram>, AllocError> {
 /// `while` is a name here, and calls nothing; `main` has one block.
 fn two_functions(alloc: Global) -> Result<Option<TacProgram>, AllocError> {
     let places = vec![in alloc; Place { line: 1, col: 1 }]?;
-    let first = func(alloc, b"while", loop_blocks(alloc)?)?;
-    let main = func(
-        alloc,
-        b"main",
-        vec![in alloc; block(alloc, End::Ret(None))]?,
-    )?;
-    Ok(TacProgram::assemble(Vec::new(alloc), places, vec![in alloc; first, main]?))
+    let mut funcs = Vec::new(alloc);
+    funcs.push(func(alloc, b"while", loop_blocks(alloc)?)?)?;
+    let last = vec![in alloc; block(alloc, End::Ret(None))]?;
+    funcs.push(func(alloc, b"main", last)?)?;
+    Ok(TacProgram::assemble(Vec::new(alloc), places, funcs))
 }
 
 fn read(alloc: Global, tac: &TacProgram, text: &[u8]) -> Result<Counts, ProfErr> {

@@ -38,7 +38,16 @@ fn show_outcome(rt: &HostRuntime, budget: u64, outcome: Outcome) -> io::Result<(
 /// Runs a program, and prints how it came out and the profile.
 fn show_run(rt: &HostRuntime, tac: &TacProgram, budget: u64) -> io::Result<()> {
     let mut host = MemHost::new(rt.alloc(), b"")?;
-    let Ok((outcome, counts)) = run_counting(rt.alloc(), tac, &mut host, budget) else {
+    show_run_over(rt, tac, budget, &mut host)
+}
+
+fn show_run_over(
+    rt: &HostRuntime,
+    tac: &TacProgram,
+    budget: u64,
+    host: &mut MemHost,
+) -> io::Result<()> {
+    let Ok((outcome, counts)) = run_counting(rt.alloc(), tac, host, budget) else {
         return Err(wrong());
     };
     show_outcome(rt, budget, outcome)?;
@@ -47,13 +56,21 @@ fn show_run(rt: &HostRuntime, tac: &TacProgram, budget: u64) -> io::Result<()> {
 
 fn show_loop(rt: &HostRuntime) -> io::Result<()> {
     let tac = counting_loop(rt.alloc(), 3)?.ok_or(wrong())?;
-    show_run(rt, &tac, 14)?;
-    show_run(rt, &tac, 13)
+    show_budgets(rt, &tac)
 }
 
-fn time_loops(rt: &HostRuntime) -> io::Result<()> {
+/// Shows the loop with the budget that it needs, and with one less.
+fn show_budgets(rt: &HostRuntime, tac: &TacProgram) -> io::Result<()> {
+    show_run(rt, tac, 14)?;
+    show_run(rt, tac, 13)
+}
+
+fn time_loop(rt: &HostRuntime) -> io::Result<()> {
     let turns = counting_loop(rt.alloc(), 2_000_000_000)?.ok_or(wrong())?;
-    timed::steps(rt, "a small loop", &turns)?;
+    timed::steps(rt, "a small loop", &turns)
+}
+
+fn time_calls(rt: &HostRuntime) -> io::Result<()> {
     let calls = calls_without_end(rt.alloc())?.ok_or(wrong())?;
     timed::steps(rt, "a loop of calls", &calls)
 }
@@ -63,5 +80,6 @@ fn main(rt: HostRuntime) -> io::Result<()> {
     timed::sizes(&rt, 1, 200_000)?;
     timed::sizes(&rt, 1_000, 200)?;
     timed::sizes(&rt, 100_000, 2)?;
-    time_loops(&rt)
+    time_loop(&rt)?;
+    time_calls(&rt)
 }

@@ -4,12 +4,17 @@ use sqlite_items::Items;
 use std::alloc::{AllocError, Global};
 use tac_core::{Act, Block, End, Regs, Size, TacFunc, TacOp, TacProgram};
 
-fn block(alloc: Global, acts: &[Act], end: End) -> Result<Block, AllocError> {
+fn ops_of(alloc: Global, acts: &[Act]) -> Result<Items<TacOp>, AllocError> {
     let mut ops = Items::new(alloc);
     for act in acts {
         ops.push(TacOp { stmt: 0, act: *act })?;
     }
-    Ok(Block {
+    Ok(ops)
+}
+
+/// Appends a block.
+fn add(blocks: &mut Items<Block>, ops: Items<TacOp>, end: End) -> Result<(), AllocError> {
+    blocks.push(Block {
         ops,
         end,
         end_stmt: 0,
@@ -55,35 +60,42 @@ pub fn counting_loop(alloc: Global, turns: i64) -> Result<Option<TacProgram>, Al
             right: 1,
         },
     ];
+    let mut blocks = Items::new(alloc);
+    add(&mut blocks, ops_of(alloc, &first)?, End::Jump(1))?;
+    let ops = ops_of(alloc, &turn)?;
     let again = End::Branch {
         reg: 3,
         yes: 1,
         no: 2,
     };
-    let blocks = vec![in alloc;
-        block(alloc, &first, End::Jump(1))?,
-        block(alloc, &turn, again)?,
-        block(alloc, &[], End::Ret(Some(0)))?,
-    ]?;
-    let main = func(alloc, "main", Items::from_vec(blocks))?;
-    program(alloc, vec![in alloc; main]?)
+    add(&mut blocks, ops, again)?;
+    add(&mut blocks, Items::new(alloc), End::Ret(Some(0)))?;
+    let mut funcs = Vec::new(alloc);
+    funcs.push(func(alloc, "main", blocks)?)?;
+    program(alloc, funcs)
 }
 
 /// `main` calls `f`, which returns, again and again.
 pub fn calls_without_end(alloc: Global) -> Result<Option<TacProgram>, AllocError> {
+    let mut funcs = Vec::new(alloc);
+    funcs.push(func(alloc, "main", blocks_that_call(alloc)?)?)?;
+    let mut returns = Items::new(alloc);
+    add(&mut returns, Items::new(alloc), End::Ret(None))?;
+    funcs.push(func(alloc, "f", returns)?)?;
+    program(alloc, funcs)
+}
+
+/// Blocks that call the second function in turns.
+fn blocks_that_call(alloc: Global) -> Result<Items<Block>, AllocError> {
+    let mut blocks = Items::new(alloc);
+    add(&mut blocks, Items::new(alloc), End::Jump(1))?;
     let call = End::Call {
         dest: None,
         func: 1,
         args: Regs::keep(SmallVec::new(alloc)),
         next: 2,
     };
-    let blocks = vec![in alloc;
-        block(alloc, &[], End::Jump(1))?,
-        block(alloc, &[], call)?,
-        block(alloc, &[], End::Jump(1))?,
-    ]?;
-    let main = func(alloc, "main", Items::from_vec(blocks))?;
-    let returns = vec![in alloc; block(alloc, &[], End::Ret(None))?]?;
-    let callee = func(alloc, "f", Items::from_vec(returns))?;
-    program(alloc, vec![in alloc; main, callee]?)
+    add(&mut blocks, Items::new(alloc), call)?;
+    add(&mut blocks, Items::new(alloc), End::Jump(1))?;
+    Ok(blocks)
 }

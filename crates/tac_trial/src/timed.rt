@@ -3,6 +3,7 @@ use crate::wrong;
 use ib_base::{MemHost, Outcome, Place};
 use profile::run_counting;
 use profile_text::{print_profile, read_profile};
+use std::alloc::Global;
 use std::io;
 use std::time::Instant;
 use tac_core::{Counts, TacProgram};
@@ -52,14 +53,26 @@ fn printed(rt: &HostRuntime, tac: &TacProgram, counts: &Counts) -> io::Result<Ve
     Ok(text)
 }
 
+/// How a run of a million steps comes out; `None` for want of memory.
+fn outcome_of(alloc: Global, tac: &TacProgram) -> Option<Outcome> {
+    let mut host = MemHost::new(alloc, b"").ok()?;
+    outcome_over(alloc, tac, &mut host)
+}
+
+fn outcome_over(alloc: Global, tac: &TacProgram, host: &mut MemHost) -> Option<Outcome> {
+    match run_counting(alloc, tac, host, STEPS) {
+        Ok((outcome, _)) => Some(outcome),
+        Err(_) => None,
+    }
+}
+
 /// Times a run of a million steps that does not end.
 pub fn steps(rt: &HostRuntime, what: &str, tac: &TacProgram) -> io::Result<()> {
-    let mut host = MemHost::new(rt.alloc(), b"")?;
     let start = Instant::now(rt)?;
-    let run = run_counting(rt.alloc(), tac, &mut host, STEPS);
+    let outcome = outcome_of(rt.alloc(), tac);
     show(rt, what, start)?;
-    match run {
-        Ok((Outcome::Spent, _)) => println!(rt; "{what}: spent after {STEPS} steps"),
+    match outcome {
+        Some(Outcome::Spent) => println!(rt; "{what}: spent after {STEPS} steps"),
         _ => Err(wrong()),
     }
 }

@@ -1,9 +1,12 @@
 use std::alloc::{AllocError, AllocFailed};
+use thiserror::Error;
 
 /// Why no program was read.
-#[derive(Clone, Copy, PartialEq, Eq, Debug)]
+#[derive(Clone, Copy, PartialEq, Eq, Debug, Error)]
 pub enum ReadErr {
+    #[error("the source is not in the form that this version compiles")]
     NotFirstForm,
+    #[error("there is not enough memory to read the source")]
     NoMemory,
 }
 

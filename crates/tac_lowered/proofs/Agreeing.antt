@@ -29,7 +29,7 @@ use Rattle.tac_lowered.specs.Code.{Code}
 use Rattle.tac_lowered.specs.Items.{Open, goes, onward, Loop, items}
 use Rattle.tac_lowered.specs.Statements.{goes_on, go_on, low_stms}
 use Rattle.tac_lowered.specs.Lowered.{params_in, nowhere, all_stored, free_in, body_of, items_of, lowered_function, lowered}
-use Rattle.tac_lowered.specs.Sound.{KeepsStm, KeepsStms, KeepsFunction, KeepsProgram}
+use Rattle.c_kept.specs.Kept.{KeepsStm, KeepsStms, KeepsFunction, KeepsProgram}
 use Rattle.tac_lowered.proofs.Geometry.{whole, at_least}
 use Rattle.tac_lowered.proofs.Relation.{IsMore, Reaches, Spot, Lies, Suit, Called, Match, Has, code_has, enters, ended, ended_last}
 use Rattle.tac_lowered.proofs.Gives.{first_has, second_has, both_follows}

@@ -32,7 +32,7 @@ use Rattle.tac_lowered.specs.Code.{Code, nothing, does, both, Test}
 use Rattle.tac_lowered.specs.Operators.{moved, number, or_else, narrows, cut, converted, size_of, arithmetic, comparison, scaled, operated, given_by, assigned, sign, bound}
 use Rattle.tac_lowered.specs.Expressions.{held, at, known, passed, address, address_at, indexed, low, low_all, effects, test, are_quiet, is_quiet, width_in}
 use Rattle.tac_lowered.specs.Statements.{low_stm, low_stms, returned, test_part}
-use Rattle.tac_lowered.specs.Sound.{Fill, KeepsExp, KeepsExps, KeepsPart, Returns, KeepsStm, KeepsStms}
+use Rattle.c_kept.specs.Kept.{Fill, KeepsExp, KeepsExps, KeepsPart, Returns, KeepsStm, KeepsStms}
 use Rattle.tac_lowered.specs.Numbered.{NumbersStm, NumbersStms}
 use Rattle.tac_lowered.proofs.Shapes.{KeepsCode, KeepsTest}
 

@@ -13,7 +13,7 @@ use Rattle.c_typed.specs.declared.program.Param.{Param}
 use Rattle.c_typed.specs.Values.{width_of}
 use Rattle.tac_core.specs.Meaning.{reg_of, set_all}
 use Rattle.tac_lowered.specs.Lowered.{behind_home, behind_params, home_in, params_in}
-use Rattle.tac_lowered.specs.Sound.{HasHome, HaveHomes}
+use Rattle.c_kept.specs.Kept.{HasHome, HaveHomes}
 use Rattle.tac_lowered.proofs.Relation.{Lies, Suit}
 use Rattle.tac_lowered.proofs.Statements.{zero_lies}
 

@@ -20,7 +20,7 @@ pub mod Prologue
 pub mod Relation
 pub mod Shapes
 pub mod Signs
-pub mod SoundRows
+mod NumberedRows
 pub mod Statements
 pub mod Storing
 pub mod Updating

@@ -14,7 +14,7 @@ use Rattle.c_typed.specs.Tree.{Exp, Exps, Function}
 use Rattle.c_typed.specs.Values.{width_of}
 use Rattle.tac_lowered.specs.Operators.{narrows}
 use Rattle.tac_lowered.specs.Expressions.{at, is_quiet, width_in}
-use Rattle.tac_lowered.specs.Sound.{fits_in, told, HasSlot, Fill, KeepsExp, KeepsExps, KeepsProgram}
+use Rattle.c_kept.specs.Kept.{fits_in, told, HasSlot, Fill, KeepsExp, KeepsExps, KeepsProgram}
 use Rattle.tac_lowered.proofs.Relation.{Spot, Lies, many, kind_of}
 use Rattle.tac_lowered.proofs.Constructs.{Lowers}
 use Rattle.tac_lowered.proofs.Statements.{no_loss, told_in}

@@ -23,7 +23,7 @@ use Rattle.c_typed.specs.declared.operation.Operation.TheVariants as op
 use Rattle.c_typed.specs.Values as values
 use Rattle.c_typed.specs.Values.{ranked, truth, scaled}
 use Rattle.tac_lowered.specs.Operators.{given_by}
-use Rattle.tac_lowered.specs.Sound.{fits_in, is_shift, takes}
+use Rattle.c_kept.specs.Kept.{fits_in, is_shift, takes}
 use Rattle.tac_lowered.proofs.Relation.{Lies}
 use Rattle.tac_lowered.proofs.Statements.{no_loss}
 use Rattle.tac_lowered.proofs.Widths.{wider, wrapped_lies, truth_lies}

@@ -16,7 +16,7 @@ use Rattle.tac_lowered.specs.Code.{Code, both, calls}
 use Rattle.tac_lowered.specs.Items.{Item, Close, Open, fresh, goes, onward, Loop, items, label_of}
 use Rattle.tac_lowered.specs.Expressions.{low, low_all, effects, held, passed, is_quiet, are_quiet, width_in}
 use Rattle.tac_lowered.specs.Lowered.{up_to_all, registers}
-use Rattle.tac_lowered.specs.Sound.{told, KeepsExps, Fill}
+use Rattle.c_kept.specs.Kept.{told, KeepsExps, Fill}
 use Rattle.tac_lowered.proofs.Geometry.{found, with_before, up_least}
 use Rattle.tac_lowered.proofs.Relation.{Spot, Lies, Back, Suit, kind_of, Match, Kept, Follows, Has, close_has}
 use Rattle.tac_lowered.proofs.Gives.{plain_gives, kept_all, kept_on, first_has, second_has, both_follows}

@@ -27,7 +27,7 @@ use Rattle.tac_lowered.specs.Code.{Code, does}
 use Rattle.tac_lowered.specs.Items.{Item, Open, goes, onward, Loop, items}
 use Rattle.tac_lowered.specs.Lowered as low
 use Rattle.tac_lowered.specs.Lowered.{behind_home, behind_params, home_in, params_in, all_stored, nowhere}
-use Rattle.tac_lowered.specs.Sound.{is_value, HasHome, HaveHomes}
+use Rattle.c_kept.specs.Kept.{is_value, HasHome, HaveHomes}
 use Rattle.tac_lowered.proofs.Relation.{Spot, many, Suit, Match, Follows, Has}
 use Rattle.tac_lowered.proofs.Gives.{set_match, set_same, does_follows, sets_follows, first_has, second_has, both_follows, target_room}
 use Rattle.tac_lowered.proofs.Values.{own_address, bytes_same}

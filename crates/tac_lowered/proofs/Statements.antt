@@ -15,7 +15,7 @@ use Rattle.tac_lowered.specs.Items.{goes, items}
 use Rattle.tac_lowered.specs.Operators.{narrows, given_by}
 use Rattle.tac_lowered.specs.Expressions.{low, held, at, effects, tested, width_in, is_quiet}
 use Rattle.tac_lowered.specs.Statements.{goes_on, go_on, low_stm, low_stms, test_part, returned}
-use Rattle.tac_lowered.specs.Sound.{fits_in, told, gives, KeepsExp, KeepsExps, KeepsPart, Returns, KeepsStm, KeepsStms}
+use Rattle.c_kept.specs.Kept.{fits_in, told, gives, KeepsExp, KeepsExps, KeepsPart, Returns, KeepsStm, KeepsStms}
 use Rattle.tac_lowered.proofs.Relation.{Spot, Lies}
 use Rattle.tac_lowered.proofs.Gives.{Gives, kept_all, first_has, second_has, both_follows}
 use Rattle.tac_lowered.proofs.Constructs.{Lowers, Tests, ev, settled_tests}

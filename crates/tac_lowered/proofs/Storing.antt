@@ -23,7 +23,7 @@ use Rattle.tac_lowered.specs.Code.{Code, does, both}
 use Rattle.tac_lowered.specs.Items.{Item, Open, goes, Next, onward, closes, Loop, items}
 use Rattle.tac_lowered.specs.Operators.{narrows, moved}
 use Rattle.tac_lowered.specs.Expressions.{low, held, at, is_quiet, width_in}
-use Rattle.tac_lowered.specs.Sound.{is_value}
+use Rattle.c_kept.specs.Kept.{is_value}
 use Rattle.tac_lowered.proofs.Relation.{Spot, Lies, Match, Follows, Behind, Has}
 use Rattle.tac_lowered.proofs.Gives.{After, plain_gives, kept_all, kept_on, does_follows, fault_follows, first_has, second_has, both_follows, first_room, second_room}
 use Rattle.tac_lowered.proofs.Computing.{moved_follows}

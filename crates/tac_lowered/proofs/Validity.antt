@@ -23,7 +23,7 @@ use Rattle.tac_core.specs.declared.code.TacFunc.{TacFunc}
 use Rattle.tac_core.specs.Rules.{IsRegister, IsGoodAct, IsGoodOp, Takes, IsGoodEnd, IsGoodBlock, IsGoodFunc, IsMain, IsName, IsValid, AreDistinct}
 use Rattle.tac_lowered.specs.Items.{Item, Do, Close, ops_of, end_of, stmt_of, block_of, rest_of, blocks, Open, fresh, counted, goes, onward, Loop}
 use Rattle.tac_lowered.specs.Lowered.{behind_home, behind_params, up_to, up_to_all, up_to_end, registers, home_in, params_in, nowhere, stored, all_stored, free_in, body_of, items_of, lowered_function, lowered}
-use Rattle.tac_lowered.specs.Sound.{HasHome, HaveHomes, slots_of, KeepsFunction, KeepsProgram}
+use Rattle.c_kept.specs.Kept.{HasHome, HaveHomes, slots_of, KeepsFunction, KeepsProgram}
 use Rattle.tac_lowered.specs.Numbered.{NumbersStm, NumbersStms, KeepsNumbers}
 use Rattle.tac_lowered.proofs.Geometry.{run, runs, up_least, do_least, close_least, at_least}
 use Rattle.tac_lowered.proofs.Shapes.{KeepsCode, Leads, Good, good_items}

@@ -27,7 +27,7 @@ use Rattle.tac_lowered.specs.Code.{Code, does, both, nothing}
 use Rattle.tac_lowered.specs.Items.{Item, Open, goes, Next, onward, jump, closes, Loop, items, own_items, entry}
 use Rattle.tac_lowered.specs.Operators.{moved, number, or_else, narrows, cut}
 use Rattle.tac_lowered.specs.Expressions.{low, held, at, is_quiet, width_in}
-use Rattle.tac_lowered.specs.Sound.{is_value}
+use Rattle.c_kept.specs.Kept.{is_value}
 use Rattle.tac_lowered.proofs.Relation.{Spot, Lies, many, slot_of, kind_of, Match, Follows, Behind, Begins, Has, enters, free_room}
 use Rattle.tac_lowered.proofs.Gives.{After, Gives, plain_gives, Puts, set_same, slot_match, kept_all, wrote, nothing_follows, sets_follows, fault_follows, first_has, second_has, both_follows, first_room, gives_puts, slot_puts}
 use Rattle.tac_lowered.proofs.Computing.{moved_follows, const_acts, mov_acts}

@@ -5,6 +5,5 @@ pub mod Items
 pub mod Lowered
 pub mod Numbered
 pub mod Operators
-pub mod Sound
 pub mod Statements
 pub mod Weights

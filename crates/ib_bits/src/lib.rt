@@ -1,0 +1,6 @@
+//! Sets of small numbers, a bit for each.
+#![tactic(auto)]
+
+mod set;
+
+pub use set::BitSet;

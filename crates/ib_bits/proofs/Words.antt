@@ -3,14 +3,14 @@ use Rattle.std.proofs.Common.{◌≡◌, ◌≢◌, ◌↔◌, ◌⊎◌, ⊎_el
 use Rattle.std.specs.Prelude.{◌^◌}
 use Rattle.std.specs.Int.{bit_at, w64, bit_not}
 use Rattle.std.specs.List.{sum_by}
-use Rattle.std.proofs.Math.ListN.{set, length-set}
+use Rattle.std.proofs.Math.ListN.{set, length-set, replicate, length-replicate}
 use Rattle.std.proofs.lemmas.Bool.{cases_eq, cases_lt, eq-eqb, eqb-true}
 use Rattle.std.proofs.lemmas.Grind.{get_or-set_at, get_or_default_zero}
-use Rattle.std.proofs.lemmas.List.{get_or-set_other, get_or_past}
+use Rattle.std.proofs.lemmas.List.{get_or-set_other, get_or_past, get_or-replicate}
 use Rattle.std.proofs.lemmas.Nat.{le_or_l}
 use Rattle.std.proofs.lemmas.List.Sums.{sum_by-set}
 use Rattle.std.proofs.lemmas.Nat.Bits.{bit_at-lt, bit_at-zero, bit_at_or, shr_and_one, bit_at_set_same, bit_at_set_other, bit_at_clear_same, bit_at_clear_other}
-use Rattle.ib_bits.specs.Bits.{Has, room}
+use Rattle.ib_bits.specs.Bits.{Has, IsEmpty, room}
 
 -- the bit that stands for a number
 abbrev pub bit_of : List ℕ → ℕ → ℕ
@@ -41,6 +41,17 @@ pub has_past : (words : List ℕ) (k : ℕ) → length words ≤ k / 64 → Has 
 unfolding Has
 has_past words k past h =
     let e : bit_of words k ≡ 0 = ap (λ x. bit_at x (k % 64)) (get_or_past words (k / 64) 0 past) ∙ bit_at-zero (k % 64) in
+    let z : 0 ≡ 1 = sym e ∙ h in omega (arith, z)
+
+pub empty_new : (size : ℕ) → IsEmpty (replicate size 0)
+unfolding Has
+empty_new size n h =
+    let word : get_or (replicate size 0) (n / 64) 0 ≡ 0 =
+    ⊎_elim
+    (λ lt. get_or-replicate size (n / 64) 0 0 lt)
+    (λ past. get_or_past (replicate size 0) (n / 64) 0 (omega (arith, past, length-replicate {A = ℕ} size 0)))
+    (cases_lt (n / 64) size) in
+    let e : bit_of (replicate size 0) n ≡ 0 = ap (λ x. bit_at x (n % 64)) word ∙ bit_at-zero (n % 64) in
     let z : 0 ≡ 1 = sym e ∙ h in omega (arith, z)
 
 -- a word that is read

@@ -7,6 +7,9 @@ use Rattle.std.specs.List.{sum_by}
 unfoldable pub Has : List ℕ → ℕ → Type 0
 Has words n = bit_at (slice_index words (n / 64)) (n % 64) ≡ 1
 
+abbrev pub IsEmpty : List ℕ → Type 0
+IsEmpty words = (n : ℕ) → Has words n → ⊥
+
 -- how far the words are from holding every bit
 unfoldable pub room : List ℕ → ℕ
 room words = sum_by (λ w. 18446744073709551615 - w) words

@@ -1,5 +1,5 @@
-ghost use Rattle.std.specs.Prelude.{◌≡◌, ◌≢◌, ◌↔◌, ◌*◌, ◌<◌, ◌≤◌, ℕ, ◌⊎◌, IsTrue, IfOk, length, replicate, true, false};
-ghost use Rattle.ib_bits.specs.Bits.{Has, room};
+ghost use Rattle.std.specs.Prelude.{◌≡◌, ◌≢◌, ◌↔◌, ◌*◌, ◌<◌, ◌≤◌, ℕ, ◌⊎◌, IsTrue, IfOk, length, true, false};
+ghost use Rattle.ib_bits.specs.Bits.{Has, IsEmpty, room};
 
 use sqlite_items::Items;
 use std::alloc::{AllocError, Global};
@@ -24,8 +24,9 @@ impl Model for BitSet {
 
 impl BitSet {
     /// The empty set, of so many words.
+    #[tactic(auto, using(crate::proofs::Words::empty_new))]
     pub fn new(alloc: Global, words: usize) -> Result<BitSet, AllocError>
-        ensures { IfOk result (λ set. set ≡ replicate words 0) }
+        ensures { IfOk result (λ set. (length set ≡ words) × IsEmpty set) }
     {
         let words = vec![in alloc; 0; words]?;
         Ok(BitSet { words })
@@ -61,7 +62,8 @@ impl BitSet {
 
     /// Leaves every number out.
     pub fn clear(&mut self)
-        ensures { self.new ≡ replicate (length self.old) 0 }
+        ensures empty { IsEmpty self.new }
+        ensures size { length self.new ≡ length self.old }
     {
         self.words.fill(0);
     }

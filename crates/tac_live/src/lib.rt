@@ -1,0 +1,11 @@
+//! Which registers are live where a block begins: exactly those that some path from there reads before it writes them.
+#![tactic(auto)]
+
+mod before;
+mod behind;
+mod preds;
+mod rounds;
+mod sets;
+
+pub use before::live_before;
+pub use rounds::live_rows;

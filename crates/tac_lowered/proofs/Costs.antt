@@ -31,7 +31,7 @@ use Rattle.tac_core.specs.Program.{block_ops, func_ops}
 use Rattle.tac_lowered.specs.Code.{Code, nothing, does, both, calls, when, choose, repeat, until, leave, Test, settled, on, all_of, one_of, inverse}
 use Rattle.tac_lowered.specs.Items.{Item, Do, Close, ops_of, block_of, rest_of, Open, fresh, fresh_if, is_full, counted, after, is_jump, owned, goes, goes_test, Loop, Next, onward, jump, closes, close, label_of, put, entry, own_items, items, test_items}
 use Rattle.tac_lowered.specs.Operators.{moved, number, or_else, narrows, cut, converted, scaled, operated, given_by, assigned, sign}
-use Rattle.tac_lowered.specs.Expressions.{held, at, known, address, address_at, indexed, low, low_all, effects, test, are_quiet, is_quiet, width_in}
+use Rattle.tac_lowered.specs.Expressions.{held, at, behind_operand, is_empty, known, address, address_at, indexed, low, low_all, effects, test, are_quiet, is_quiet, width_in}
 use Rattle.tac_lowered.specs.Statements.{low_stm, low_stms, returned, test_part}
 use Rattle.tac_lowered.specs.Lowered.{behind_home, nowhere, stored, all_stored, free_in, body_of, items_of, lowered_function}
 use Rattle.tac_lowered.specs.Weights.{weight, weights, weight_part, weight_stm, weight_stms, weight_function}
@@ -275,6 +275,10 @@ module _ (p : Program) where
   cut_cost true w s to x first whole c hf hw = omega (arith, hf)
   cut_cost false w s to x first whole c hf hw = omega (arith, hw)
 
+  some_cost : (b : Bool) (s k : ℕ) (code : Code) → cost (if b then does s (Mov k k) else code) ≤ cost code + 1
+  some_cost true s k code = omega arith
+  some_cost false s k code = omega arith
+
   -- an operand
   held_low : (b : Bool) (a : Exp) (s r : ℕ) → cost (low p a s (Some r) r) ≤ 9 * weight a → cost (held b a (low p a s (Some r) r)) ≤ 9 * weight a
   held_low b a s r h = let e1 = held_cost b a (low p a s (Some r) r) in omega (arith, e1, h)
@@ -314,7 +318,7 @@ module _ (p : Program) where
         let e2 = low_cost b s to r in
         let e3 = low_cost c s to r in
         omega (arith, e1, e2, e3)
-    low_cost (t.set_slot ty k a) s to r = let e1 = low_cost a s (Some k) r in let e2 = moved_cost s to k in omega (arith, e1, e2)
+    low_cost (t.set_slot ty k a) s to r = let e1 = low_cost a s (Some k) r in let e2 = moved_cost s to k in let e3 = some_cost (is_empty (low p a s (Some k) r)) s k (low p a s (Some k) r) in omega (arith, e1, e2, e3)
     low_cost (t.store ty a b) s to r =
         let e1 = (held_low (is_quiet b) a s r (low_cost a s (Some r) r)) in
         let e2 = (held_low true b s (r + 1) (low_cost b s (Some (r + 1)) (r + 1))) in
@@ -348,7 +352,7 @@ module _ (p : Program) where
 
     all_cost : (all : Exps) (s r : ℕ) → cost (low_all p all s r) ≤ 9 * weights all
     all_cost t.no_exp s r = omega arith
-    all_cost (t.an_exp a rest) s r = let e1 = (held_low (are_quiet rest) a s r (low_cost a s (Some r) r)) in let e2 = all_cost rest s (r + 1) in omega (arith, e1, e2)
+    all_cost (t.an_exp a rest) s r = let e1 = (held_low (are_quiet rest) a s r (low_cost a s (Some r) r)) in let e2 = all_cost rest s (behind_operand (are_quiet rest) a r) in omega (arith, e1, e2)
 
     effects_cost : (all : Exps) (s r : ℕ) → cost (effects p all s r) ≤ 9 * weights all
     effects_cost t.no_exp s r = omega arith

@@ -30,7 +30,7 @@ use Rattle.c_typed.specs.Values as values
 use Rattle.c_typed.specs.Values.{width_of, ranked, further}
 use Rattle.tac_lowered.specs.Code.{Code, nothing, does, both, Test}
 use Rattle.tac_lowered.specs.Operators.{moved, number, or_else, narrows, cut, converted, size_of, arithmetic, comparison, scaled, operated, given_by, assigned, sign, bound}
-use Rattle.tac_lowered.specs.Expressions.{held, at, known, passed, address, address_at, indexed, low, low_all, effects, test, are_quiet, is_quiet, width_in}
+use Rattle.tac_lowered.specs.Expressions.{held, at, behind_operand, is_empty, known, passed, address, address_at, indexed, low, low_all, effects, test, are_quiet, is_quiet, width_in}
 use Rattle.tac_lowered.specs.Statements.{low_stm, low_stms, returned, test_part}
 use Rattle.c_kept.specs.Kept.{Fill, KeepsExp, KeepsExps, KeepsPart, Returns, KeepsStm, KeepsStms}
 use Rattle.tac_lowered.specs.Numbered.{NumbersStm, NumbersStms}
@@ -72,7 +72,7 @@ passed_long : (all : Exps) (r : ℕ) (p : Program) (kinds : List ValueType) (qs 
 passed_long t.no_exp r p kinds [] h = refl
 passed_long t.no_exp r p kinds (q ∷ qs) h = absurd h
 passed_long (t.an_exp a rest) r p kinds [] h = absurd h
-passed_long (t.an_exp a rest) r p kinds (q ∷ qs) h = ap suc (passed_long rest (r + 1) p kinds qs h.1)
+passed_long (t.an_exp a rest) r p kinds (q ∷ qs) h = ap suc (passed_long rest (behind_operand (are_quiet rest) a r) p kinds qs h.1)
 
 module _ (p : Program) (kinds : List ValueType) (places : ℕ) (takes : (function count : ℕ) → Type 0)
     (calls_take : (g : ℕ) (G : Function) (count : ℕ) → slice_get p.functions g ≡ Some G → count ≡ length G.params → takes g count) where
@@ -157,6 +157,10 @@ module _ (p : Program) (kinds : List ValueType) (places : ℕ) (takes : (functio
   cut_keeps true w s to x first whole ls hf hw l = (hf l, (ls, cut_good w to x))
   cut_keeps false w s to x first whole ls hf hw l = hw l
 
+  some_keeps : (b : Bool) (s k : ℕ) (code : Code) → s < places → Keeps code → Keeps (if b then does s (Mov k k) else code)
+  some_keeps true s k code ls h l = (ls, tt)
+  some_keeps false s k code ls h l = h l
+
   -- ---- expressions
 
   call_keeps : (g : ℕ) (ty : ValueType) (all : Exps) (r : ℕ) (o : Option Function) → slice_get p.functions g ≡ o → MatchOption o ⊥ (λ G. (ty ≡ G.result) × Fill p kinds all G.params) → takes g (length (passed all r))
@@ -190,7 +194,7 @@ module _ (p : Program) (kinds : List ValueType) (places : ℕ) (takes : (functio
         (ls, (test_keeps a h.0 s ls r (low p a s (Some r) r) (λ l. low_keeps a h.0 s ls (Some r) r l), test_keeps b h.1 s ls r (low p b s (Some r) r) (λ l. low_keeps b h.1 s ls (Some r) r l)), (ls, tt), (ls, tt))
     low_keeps (t.conditional ty a b c) h s ls to r l =
         (ls, test_keeps a h.0 s ls r (low p a s (Some r) r) (λ l. low_keeps a h.0 s ls (Some r) r l), low_keeps b h.1 s ls to r l, low_keeps c h.2 s ls to r l)
-    low_keeps (t.set_slot ty k a) h s ls to r l = (low_keeps a h.1 s ls (Some k) r l, moved_keeps s to k ls l)
+    low_keeps (t.set_slot ty k a) h s ls to r l = (some_keeps (is_empty (low p a s (Some k) r)) s k (low p a s (Some k) r) ls (λ l. low_keeps a h.1 s ls (Some k) r l) l, moved_keeps s to k ls l)
     low_keeps (t.store ty a b) h s ls to r l = (
       held_keeps (is_quiet b) a (low p a s (Some r) r) (λ l. low_keeps a h.0 s ls (Some r) r l) l,
       (held_keeps true b (low p b s (Some (r + 1)) (r + 1)) (λ l. low_keeps b h.1 s ls (Some (r + 1)) (r + 1) l) l, ((ls, at_base), moved_keeps s to (at true b (r + 1)) ls l)),
@@ -227,7 +231,7 @@ module _ (p : Program) (kinds : List ValueType) (places : ℕ) (takes : (functio
 
     all_keep : (all : Exps) → KeepsExps p kinds all → (s : ℕ) → s < places → (r : ℕ) → Keeps (low_all p all s r)
     all_keep t.no_exp h s ls r l = tt
-    all_keep (t.an_exp a rest) h s ls r l = (held_keeps (are_quiet rest) a (low p a s (Some r) r) (λ l. low_keeps a h.0 s ls (Some r) r l) l, all_keep rest h.1 s ls (r + 1) l)
+    all_keep (t.an_exp a rest) h s ls r l = (held_keeps (are_quiet rest) a (low p a s (Some r) r) (λ l. low_keeps a h.0 s ls (Some r) r l) l, all_keep rest h.1 s ls (behind_operand (are_quiet rest) a r) l)
 
     pub effects_keep : (all : Exps) → KeepsExps p kinds all → (s : ℕ) → s < places → (r : ℕ) → Keeps (effects p all s r)
     effects_keep t.no_exp h s ls r l = tt

@@ -1,6 +1,7 @@
 -- Expressions in a row, arguments and calls.
 use Rattle.std.proofs.Common.{◌≡◌, ℕ, suc, ◌+◌, ◌<◌, ◌≤◌, ◌%◌, ℤ, pos, List, [], ◌∷◌, ◌++◌, length, map, Bool, true, false, ◌&&◌, refl, sym, ap, ◌∙◌, subst, arith, Some, None}
 use Rattle.std.specs.Prelude.{slice_get, slice_index_or}
+use Rattle.std.proofs.lemmas.Option.{slice_get_within}
 use Rattle.c_meaning.specs.Doing as e
 use Rattle.c_meaning.specs.Doing.{Step, Doing}
 use Rattle.c_meaning.specs.Meaning.{evals}
@@ -14,12 +15,12 @@ use Rattle.tac_core.specs.declared.code.End.TheVariants.{Call}
 use Rattle.tac_core.specs.Meaning.{reg_of, set_in, block_of, frame_of}
 use Rattle.tac_lowered.specs.Code.{Code, both, calls}
 use Rattle.tac_lowered.specs.Items.{Item, Close, Open, fresh, goes, onward, Loop, items, label_of}
-use Rattle.tac_lowered.specs.Expressions.{low, low_all, effects, held, passed, is_quiet, are_quiet, width_in}
+use Rattle.tac_lowered.specs.Expressions.{low, low_all, effects, held, at, behind_operand, passed, is_quiet, are_quiet, width_in}
 use Rattle.tac_lowered.specs.Lowered.{up_to_all, registers}
-use Rattle.c_kept.specs.Kept.{told, KeepsExps, Fill}
+use Rattle.c_kept.specs.Kept.{KeepsExp, told, KeepsExps, Fill}
 use Rattle.tac_lowered.proofs.Geometry.{found, with_before, up_least}
 use Rattle.tac_lowered.proofs.Relation.{Spot, Lies, Back, Suit, kind_of, Match, Kept, Follows, Has, close_has}
-use Rattle.tac_lowered.proofs.Gives.{plain_gives, kept_all, kept_on, first_has, second_has, both_follows}
+use Rattle.tac_lowered.proofs.Gives.{Stays, plain_gives, kept_all, kept_on, first_has, second_has, both_follows}
 use Rattle.tac_lowered.proofs.Constructs.{Lowers, Later, ev, plain_lowers}
 use Rattle.tac_lowered.proofs.Operations.{begins_behind, after_later}
 use Rattle.tac_lowered.proofs.Statements.{no_loss, told_in}
@@ -45,11 +46,25 @@ all_rooms : (rs : List ℕ) (n regs : ℕ) → up_to_all rs n ≤ regs → Rooms
 all_rooms [] n regs le = tt
 all_rooms (r ∷ rs) n regs le = (omega arith, all_rooms rs n regs (omega arith))
 
+operand_behind : (b : Bool) (a : Exp) (r : ℕ) → r ≤ behind_operand b a r
+operand_behind true (t.slot ty k) r = omega arith
+operand_behind true a r = omega arith
+operand_behind false a r = omega arith
+
 module _ (C : Spot) where
   -- each of them is lowered
   abbrev pub AllLower : Exps → Type 0
   AllLower t.no_exp = Unit {0}
   AllLower (t.an_exp a rest) = Lowers C a × AllLower rest
+
+  -- an operand's register has its value while what is behind it is done
+  stays_on : (b : Bool) (a : Exp) → KeepsExp C.p C.kinds a → (r : ℕ) (v : ℤ) (regs : List ℤ) (u : e.State) → Stays C b (at b a r) r v regs u → Match C regs u
+      → (regs' : List ℤ) (u' : e.State) → at b a r < C.F.regs → Kept C (behind_operand b a r) regs regs' → Match C regs' u' → (b ≡ true → u'.slots ≡ u.slots) → reg_of regs' (at b a r) ≡ v
+  stays_on true (t.slot ty j) h r v regs u st mt regs' u' room kept mt' slots =
+      let lt = slice_get_within C.kinds j ty h in
+      mt'.same j lt ∙ ap (λ s. slice_index_or s j (pos 0)) (slots refl) ∙ sym (mt.same j lt) ∙ st.by regs u room (kept_all C (r + 1) regs) mt (λ _. refl)
+  stays_on true a h r v regs u st mt regs' u' room kept mt' slots = st.by regs' u' room kept mt' slots
+  stays_on false a h r v regs u st mt regs' u' room kept mt' slots = st.by regs' u' room kept mt' slots
 
   -- what holds behind the code of arguments
   record Passed (r : ℕ) (is_still : Bool) (d : ℕ) (regs : List ℤ) (t : e.State) (registers : List ℕ) (vs regs' : List ℤ) (u : e.State) : Type 0 where
@@ -68,18 +83,20 @@ module _ (C : Spot) where
   args_follow (t.an_exp a more) [] lower keeps fill s r le lp o rest h rooms d dc k regs t q mt next = absurd fill
   args_follow (t.an_exp a more) (x ∷ qs) lower keeps fill s r le lp o rest h rooms d dc k regs t q mt next =
       let A = held (are_quiet more) a (low C.p a s (Some r) r) in
-      let B = low_all C.p more s (r + 1) in
-      let le1 : C.free ≤ r + 1 = omega arith in
+      let r1 = behind_operand (are_quiet more) a r in
+      let up = operand_behind (are_quiet more) a r in
+      let B = low_all C.p more s r1 in
+      let le1 : C.free ≤ r1 = omega (arith, up, le) in
       both_follows C A B lp onward o rest regs t _
       ((lower.0.puts (are_quiet more) s r le).by lp o (items B lp onward (goes A false o) ++ rest) (first_has C A B lp onward o rest h) d dc _ regs t q mt (λ v regs1 u1 f st.
-      args_follow more qs lower.1 keeps.1 fill.1 s (r + 1) le1 lp (goes A false o) rest (second_has C A B lp onward o rest h) rooms.1 d dc (λ vs. k (v ∷ vs)) regs1 u1 f.budget f.match' (λ vs regs2 u2 g suit.
-      let ev' = st.by regs2 u2 rooms.0 g.kept g.match' g.still in
+      args_follow more qs lower.1 keeps.1 fill.1 s r1 le1 lp (goes A false o) rest (second_has C A B lp onward o rest h) rooms.1 d dc (λ vs. k (v ∷ vs)) regs1 u1 f.budget f.match' (λ vs regs2 u2 g suit.
+      let ev' = stays_on (are_quiet more) a keeps.0 r v regs1 u1 st f.match' regs2 u2 rooms.0 g.kept g.match' g.still in
       next (v ∷ vs) regs2 u2 (record {
         budget = g.budget;
         match' = g.match';
-        kept = kept_on C r (r + 1) regs regs1 regs2 (omega arith) f.kept g.kept;
+        kept = kept_on C r r1 regs regs1 regs2 up f.kept g.kept;
         still = λ hq. g.still (and_second (is_quiet a) (are_quiet more) hq) ∙ f.still (and_first (is_quiet a) (are_quiet more) hq);
-        here = ap (λ z. z ∷ map (reg_of regs2) (passed more (r + 1))) ev' ∙ ap (λ zs. v ∷ zs) g.here;
+        here = ap (λ z. z ∷ map (reg_of regs2) (passed more r1)) ev' ∙ ap (λ zs. v ∷ zs) g.here;
       }) (wider (told a) (width_of x.ty) v (no_loss (told a) (width_of x.ty) fill.0) (wider (width_in a) (told a) v (told_in C.p C.kinds a keeps.0) f.lies), suit))))
 
   back_match : (regs : List ℤ) (t u : e.State) → Back t u → Match C regs t → Match C regs u

@@ -26,9 +26,9 @@ use Rattle.tac_core.specs.Meaning.{Does, effect_of, reg_of, set_in, writes}
 use Rattle.tac_lowered.specs.Code.{Code, does, both, nothing}
 use Rattle.tac_lowered.specs.Items.{Item, Open, goes, Next, onward, jump, closes, Loop, items, own_items, entry}
 use Rattle.tac_lowered.specs.Operators.{moved, number, or_else, narrows, cut}
-use Rattle.tac_lowered.specs.Expressions.{low, held, at, is_quiet, width_in}
+use Rattle.tac_lowered.specs.Expressions.{low, held, at, is_empty, some_code, is_quiet, width_in}
 use Rattle.c_kept.specs.Kept.{is_value}
-use Rattle.tac_lowered.proofs.Relation.{Spot, Lies, many, slot_of, kind_of, Match, Follows, Behind, Begins, Has, enters, free_room}
+use Rattle.tac_lowered.proofs.Relation.{code_has, Spot, Lies, many, slot_of, kind_of, Match, Follows, Behind, Begins, Has, enters, free_room}
 use Rattle.tac_lowered.proofs.Gives.{After, Gives, plain_gives, Puts, set_same, slot_match, kept_all, wrote, nothing_follows, sets_follows, fault_follows, first_has, second_has, both_follows, first_room, gives_puts, slot_puts}
 use Rattle.tac_lowered.proofs.Computing.{moved_follows, const_acts, mov_acts}
 use Rattle.tac_lowered.proofs.Constructs.{Lowers, GivesOf, ev, up, plain_lowers, settled_tests, on_tests}
@@ -229,14 +229,43 @@ module _ (C : Spot) where
 
   -- ---- a variable is set
 
+  -- code that does nothing has no items
+  empty_items : (a : Code) → is_empty a ≡ true → (x : Loop) (o : Open) → (items a x onward o ≡ []) × (goes a false o ≡ o)
+  empty_items nothing e x o = (refl, refl)
+  empty_items (both a b) e x o =
+      let ea = empty_items a (and_first (is_empty a) (is_empty b) e) x o in
+      let eb = empty_items b (and_second (is_empty a) (is_empty b) e) x (goes a false o) in
+      (ap (λ z. z ++ items b x onward (goes a false o)) ea.0 ∙ eb.0, eb.1 ∙ ea.1)
+  empty_items a e x o = let no : ⊥ = cc in absurd no
+
+  -- what gives a value in a register, and does something
+  some_follows : (s j : ℕ) (a : Code) (r : ℕ) (q : Bool) (w : Width) (m : Doing ℤ) → Gives C a (Some j) r q w m → (x : Loop) (o : Open) (rest : List Item) → Has C o (items (some_code s j a) x onward o ++ rest)
+      → (d : ℕ) → d ≤ C.c → (k : ℤ → Step) (regs : List ℤ) (t : e.State) → t.budget ≤ d → Match C regs t
+      → ((v : ℤ) (regs' : List ℤ) (u : e.State) → After C r q w d regs t v regs' u → Follows C (goes (some_code s j a) false o) rest (slice_set regs' j v) u (k v u))
+      → Follows C o (items (some_code s j a) x onward o ++ rest) regs t (m k t)
+  some_follows s j a r q w m g x o rest h d dc k regs t qd mt next = go (is_empty a) refl h next
+    where
+      code' : Bool → Code
+      code' b = if b then does s (Mov j j) else a
+
+      go : (b : Bool) → is_empty a ≡ b → Has C o (items (code' b) x onward o ++ rest) → ((v : ℤ) (regs' : List ℤ) (u : e.State) → After C r q w d regs t v regs' u → Follows C (goes (code' b) false o) rest (slice_set regs' j v) u (k v u))
+          → Follows C o (items (code' b) x onward o ++ rest) regs t (m k t)
+      go true e h next =
+          let p = goes (does s (Mov j j)) false o in
+          let ei = empty_items a e x p in
+          sets_follows C s (Mov j j) x onward o rest regs regs t (m k t) h (mov_acts j j t.base regs t.memory t.left ∙ ap (λ z. Does z t.memory t.left []) (set-get_or regs j (pos 0)))
+          (subst (λ is. Follows C p (is ++ rest) regs t (m k t)) ei.0
+          (g.by x onward p rest (subst (λ is. Has C p (is ++ rest)) (sym ei.0) (code_has C (does s (Mov j j)) x onward o rest h)) d dc k regs t qd mt (λ v regs' u f. subst (λ o'. Follows C o' rest (slice_set regs' j v) u (k v u)) (sym ei.1) (next v regs' u f))))
+      go false e h next = g.by x onward o rest h d dc k regs t qd mt next
+
   pub set_slot_lowers : (ty : ValueType) (j : ℕ) (a : Exp) → j < many C → kind_of C j ≡ ty → narrows (width_in a) (width_of ty) ≡ false → Lowers C a → Lowers C (t.set_slot ty j a)
   set_slot_lowers ty j a lt kind whole la = plain_lowers C (t.set_slot ty j a) refl refl (λ s to r le.
-      let A = low C.p a s (Some j) r in
+      let A = some_code s j (low C.p a s (Some j) r) in
       let ga = la.gives s (Some j) r le in
       plain_gives C (both A (moved s to j)) to r false (width_of ty) (ev C a s >>= (λ v. set_slot j v)) refl (λ x n o rest h d dc k regs t qd mt next.
       let h2 = second_has C A (moved s to j) x n o rest h in
       both_follows C A (moved s to j) x n o rest regs t _
-      (ga.by x onward o (items (moved s to j) x n (goes A false o) ++ rest) (first_has C A (moved s to j) x n o rest h) d dc (λ v. set_slot j v k) regs t qd mt (λ v regs1 u b.
+      (some_follows s j (low C.p a s (Some j) r) r (is_quiet a) (width_in a) (ev C a s) ga x o (items (moved s to j) x n (goes A false o) ++ rest) (first_has C A (moved s to j) x n o rest h) d dc (λ v. set_slot j v k) regs t qd mt (λ v regs1 u b.
       let u2 : e.State = record u { slots = slice_set u.slots j v } in
       let in_regs : j < C.F.regs = let e1 = free_room C (goes A false o) _ h2 in let e2 = C.enough in omega (arith, e1, e2) in
       let lv = wider (width_in a) (width_of ty) v whole b.lies in

@@ -2,7 +2,7 @@
 use Rattle.std.proofs.Common.{◌≡◌, pos, List, [], ◌∷◌, Some, None, codes, refl}
 use Rattle.ib_base.specs.declared.integers.Width.TheVariants.{W4}
 use Rattle.ib_act.specs.declared.act.Size.TheVariants.{Four, Eight}
-use Rattle.ib_act.specs.declared.act.Act.TheVariants.{Const, Add, Mul, Less, ExtByte, FrameAddress, Bounds, Load, Store, PutByte}
+use Rattle.ib_act.specs.declared.act.Act.TheVariants.{Const, Mov, Add, Mul, Less, ExtByte, FrameAddress, Bounds, Load, Store, PutByte}
 use Rattle.c_ast.specs.declared.tree.Base.TheVariants.{Char}
 use Rattle.c_typed.specs.declared.types.ValueType.TheVariants.{Base}
 use Rattle.c_typed.specs.declared.expr.Storage.TheVariants.{Global, Frame}
@@ -42,6 +42,11 @@ print = expression 0 (put_byte x)
 adds : of (expression 0 (set_slot int 0 (binary int (Integer a.Add r.Int) x (constant int (pos 1))))) ≡ Do 0 (Const 3 (pos 1)) ∷ Do 0 (Add Four 0 0 3) ∷ []
 unfolding of none is_full
 adds = refl
+
+-- x = x; something is done
+itself : of (expression 0 (set_slot int 0 x)) ≡ Do 0 (Mov 0 0) ∷ []
+unfolding of none is_full
+itself = refl
 
 -- y += x; where y is a char: the result is cut to its type
 cut_again : of (expression 0 (update_slot (Base Char) 1 int (Integer a.Add r.Int) x)) ≡ Do 0 (Add Four 4 1 0) ∷ Do 0 (ExtByte 1 4) ∷ []
@@ -102,6 +107,11 @@ skipping = refl
 inner_call : of (expression 0 (call int 5 (an_exp (call int 6 (an_exp x no_exp)) (an_exp y no_exp)))) ≡ Close 0 (Call (Some 2) 6 (0 ∷ []) 4) ∷ Close 0 (Call None 5 (2 ∷ 1 ∷ []) 5) ∷ []
 unfolding of none is_full
 inner_call = refl
+
+-- f(x, g(y, x)); a variable takes no register where nothing sets it
+variables_passed : of (expression 0 (call int 5 (an_exp x (an_exp (call int 6 (an_exp y (an_exp x no_exp))) no_exp)))) ≡ Close 0 (Call (Some 2) 6 (1 ∷ 0 ∷ []) 4) ∷ Close 0 (Call None 5 (0 ∷ 2 ∷ []) 5) ∷ []
+unfolding of none is_full
+variables_passed = refl
 
 -- g[x] += f(); the element is read before the call
 element_updated : of (expression 0 (update int (element int (Global 0) 10 4 Inside x) int (Integer a.Add r.Int) (call int 5 no_exp)))

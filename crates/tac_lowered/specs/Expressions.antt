@@ -12,7 +12,7 @@ use Rattle.c_typed.specs.Tree.{Exp, Exps}
 use Rattle.c_typed.specs.Program.{Program}
 use Rattle.c_typed.specs.Values as values
 use Rattle.c_typed.specs.Values.{width_of, is_true, ranked, further, in_bounds}
-use Rattle.tac_lowered.specs.Code.{Code, nothing, does, calls, when, choose, Test, settled, on, all_of, one_of, inverse, ◌⨾◌}
+use Rattle.tac_lowered.specs.Code.{Code, nothing, does, both, calls, when, choose, Test, settled, on, all_of, one_of, inverse, ◌⨾◌}
 use Rattle.tac_lowered.specs.Operators.{moved, number, or_else, narrows, cut, scaled, scaled_in, operated, given_by, assigned, sign, bound}
 
 -- a width that its value lies in
@@ -78,6 +78,21 @@ abbrev pub at : (is_kept : Bool) → Exp → (r : ℕ) → ℕ
 at true (t.slot ty k) r = k
 at is_kept e r = r
 
+-- the first register that is free behind an operand
+abbrev pub behind_operand : (is_kept : Bool) → Exp → (r : ℕ) → ℕ
+behind_operand true (t.slot ty k) r = r
+behind_operand is_kept e r = r + 1
+
+-- it does nothing
+abbrev pub is_empty : Code → Bool
+is_empty nothing = true
+is_empty (both a b) = is_empty a && is_empty b
+is_empty a = false
+
+-- What sets a variable does something, if only a move to itself: so variables are never more than operations.
+abbrev pub some_code : (s k : ℕ) → Code → Code
+some_code s k code = if is_empty code then does s (Mov k k) else code
+
 -- an index that is known to be within its bounds
 abbrev pub known : Reach → (length : ℕ) → Exp → Option ℤ
 known reach length (t.constant ty i) = if in_bounds reach length i then Some i else None
@@ -86,7 +101,7 @@ known reach length e = None
 -- the registers that arguments are in
 abbrev pub passed : Exps → (r : ℕ) → List ℕ
 passed t.no_exp r = []
-passed (t.an_exp a rest) r = at (are_quiet rest) a r ∷ passed rest (r + 1)
+passed (t.an_exp a rest) r = at (are_quiet rest) a r ∷ passed rest (behind_operand (are_quiet rest) a r)
 
 module _ (p : Program) where
   abbrev pub address : (s to : ℕ) → Storage → Code
@@ -134,7 +149,7 @@ module _ (p : Program) where
     low (t.either a b) s (Some to) r =
         choose s (one_of (test a s r (low a s (Some r) r)) (test b s r (low b s (Some r) r))) (does s (Const to (pos 1))) (does s (Const to (pos 0)))
     low (t.conditional ty a b c) s to r = choose s (test a s r (low a s (Some r) r)) (low b s to r) (low c s to r)
-    low (t.set_slot ty k a) s to r = low a s (Some k) r ⨾ moved s to k
+    low (t.set_slot ty k a) s to r = some_code s k (low a s (Some k) r) ⨾ moved s to k
     low (t.store ty a b) s to r =
         held (is_quiet b) a (low a s (Some r) r)
         ⨾ (held true b (low b s (Some (r + 1)) (r + 1))
@@ -165,10 +180,10 @@ module _ (p : Program) where
     low (t.put_number a) s to r = held true a (low a s (Some r) r) ⨾ (does s (PutNumber (at true a r)) ⨾ number s to (pos 0))
     low (t.comma all a) s to r = effects all s r ⨾ low a s to r
 
-    -- the values of all, each in the register of its own from r on or in a slot
+    -- the values of all, each in a slot or in a register of its own from r on
     pub low_all : Exps → (s r : ℕ) → Code
     low_all t.no_exp s r = nothing
-    low_all (t.an_exp a rest) s r = held (are_quiet rest) a (low a s (Some r) r) ⨾ low_all rest s (r + 1)
+    low_all (t.an_exp a rest) s r = held (are_quiet rest) a (low a s (Some r) r) ⨾ low_all rest s (behind_operand (are_quiet rest) a r)
 
     pub effects : Exps → (s r : ℕ) → Code
     effects t.no_exp s r = nothing

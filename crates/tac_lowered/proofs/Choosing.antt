@@ -5,6 +5,7 @@ use mathlib.Core.Path.{fun_ext}
 use Rattle.ib_base.specs.declared.integers.Width.{Width}
 use Rattle.ib_base.specs.declared.integers.Width.TheVariants.{W1, W8}
 use Rattle.ib_act.specs.declared.act.Act.TheVariants.{Const, FrameAddress}
+use Rattle.ib_meaning.proofs.Facts.{both_first}
 use Rattle.c_meaning.specs.Doing as e
 use Rattle.c_meaning.specs.Doing.{Step, Doing, ◌>>=◌, pure}
 use Rattle.c_typed.specs.declared.types.ValueType.{ValueType}
@@ -24,10 +25,6 @@ use Rattle.tac_lowered.proofs.Constructs.{Lowers, Tests, GivesOf, ev, no_slot_pu
 use Rattle.tac_lowered.proofs.Operations.{own_has, begins_behind, after_later, choose_gives}
 use Rattle.tac_lowered.proofs.Values.{nothing_gives, const_gives}
 use Rattle.tac_lowered.proofs.Widths.{truth_lies, wrapped_lies}
-
-and_first : (a b : Bool) → (a && b) ≡ true → a ≡ true
-and_first true b h = refl
-and_first false b h = h
 
 module _ (C : Spot) where
   -- an effect that a test decides
@@ -49,7 +46,7 @@ module _ (C : Spot) where
       (tc.by (entry a x out p.label) out o (A ++ rest) h1 d dc (ma (λ y. k (g y))) (k z) regs t qd mt
       (λ regs1 u l. nearly C.funcs C.places _ u _ (ga.own x s out p rest (empty_test c o) h2 d dc (λ y. k (g y)) regs1 u l.budget l.match' (λ v regs2 u2 f.
       done (g v) regs2 u2 (let f2 = after_later C r q qa wa d regs regs1 regs2 t u u2 v l f in record { budget = f2.budget; match' = f2.match'; kept = f2.kept; still = f2.still; lies = lies_g v }))))
-      (λ regs1 u l. nearly C.funcs C.places _ u _ (done z regs1 u (record { budget = l.budget; match' = l.match'; kept = l.kept; still = λ hq. l.still (and_first q qa hq); lies = lies_z }))))))
+      (λ regs1 u l. nearly C.funcs C.places _ u _ (done z regs1 u (record { budget = l.budget; match' = l.match'; kept = l.kept; still = λ hq. l.still (both_first q qa hq); lies = lies_z }))))))
     where
       inside : (x : Bool) (k : ℤ → Step) → (if x then ma (λ y. k (g y)) else k z) ≡ (if x then ma >>= (λ y. pure (g y)) else pure z) k
       inside true k = refl

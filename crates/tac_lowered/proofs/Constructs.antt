@@ -4,6 +4,7 @@ use Rattle.std.specs.Prelude.{◌==◌, if◌then◌else◌}
 use mathlib.Core.Path.{fun_ext}
 use Rattle.std.proofs.lemmas.Bool.{eqb-true}
 use Rattle.ib_base.specs.declared.integers.Width.{Width}
+use Rattle.ib_meaning.proofs.Facts.{both_first, both_second}
 use Rattle.c_meaning.specs.Doing as e
 use Rattle.c_meaning.specs.Doing.{Step, Doing, ◌>>=◌, pure, or_fault, get_slot, set_slot}
 use Rattle.c_meaning.specs.Meaning.{eval}
@@ -48,14 +49,6 @@ test_plain p (t.not a) s r value h = let z : ⊥ = cc in absurd z
 test_plain p (t.both a b) s r value h = let z : ⊥ = cc in absurd z
 test_plain p (t.either a b) s r value h = let z : ⊥ = cc in absurd z
 test_plain p e s r value h = refl
-
-and_true : (a b : Bool) → (a && b) ≡ true → a ≡ true
-and_true true b h = refl
-and_true false b h = h
-
-and_true_right : (a b : Bool) → (a && b) ≡ true → b ≡ true
-and_true_right true b h = h
-and_true_right false b h = let z : ⊥ = cc in absurd z
 
 true_truth : (b : Bool) → is_true (truth b) ≡ b
 true_truth true = refl
@@ -152,12 +145,12 @@ module _ (C : Spot) where
     budget = bc.budget;
     match' = bc.match';
     kept = kept_on C r r a b c (omega arith) ab.kept bc.kept;
-    still = λ h. bc.still (and_true_right p q h) ∙ ab.still (and_true p q h);
+    still = λ h. bc.still (both_second p q h) ∙ ab.still (both_first p q h);
   }
 
   -- nothing is promised less
   later_first : (r : ℕ) (p q : Bool) (d : ℕ) (a b : List ℤ) (t u : e.State) → Later r p d a t b u → Later r (p && q) d a t b u
-  later_first r p q d a b t u ab = record { budget = ab.budget; match' = ab.match'; kept = ab.kept; still = λ h. ab.still (and_true p q h) }
+  later_first r p q d a b t u ab = record { budget = ab.budget; match' = ab.match'; kept = ab.kept; still = λ h. ab.still (both_first p q h) }
 
   two_as : (a b : Test) (there other there' other' : ℕ) (o : Open) (rest : List Item) → (test_items a there other o ++ test_items b there' other' (goes_test a o)) ++ rest ≡ test_items a there other o ++ (test_items b there' other' (goes_test a o) ++ rest)
   two_as a b there other there' other' o rest = append_assoc (test_items a there other o) (test_items b there' other' (goes_test a o)) rest

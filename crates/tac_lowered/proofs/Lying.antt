@@ -14,6 +14,7 @@ use Rattle.ib_base.specs.declared.integers.Width.TheVariants.{W1, W8}
 use Rattle.ib_base.specs.Integers.{wrapped, quotient, remainder, divided, least_of, int_eq, count_of}
 use Rattle.ib_meaning.specs.declared.fault.FaultKind.{FaultKind}
 use Rattle.ib_meaning.specs.declared.fault.FaultKind.TheVariants.{DivZero, DivOverflow}
+use Rattle.ib_meaning.proofs.Facts.{both_first, both_second}
 use Rattle.c_typed.specs.declared.operation.Rank.{Rank}
 use Rattle.c_typed.specs.declared.operation.Rank.TheVariants as rk
 use Rattle.c_typed.specs.declared.operation.Arithmetic.{Arithmetic}
@@ -195,14 +196,6 @@ arithmetic_lies ar.BitAnd rank x y z lx ly h = subst (λ z. Lies (ranked rank) z
 arithmetic_lies ar.BitXor rank x y z lx ly h = subst (λ z. Lies (ranked rank) z) (ok_is _ z h) (bits_lie bit_xor xor_filled (λ a b. xor_shr a b 31) (λ a b la lb. xor_lt 64 a b la lb) rank x y lx (ly refl))
 arithmetic_lies ar.BitOr rank x y z lx ly h = subst (λ z. Lies (ranked rank) z) (ok_is _ z h) (bits_lie bit_or or_filled (λ a b. or_shr a b 31) (λ a b la lb. or_lt 64 a b la lb) rank x y lx (ly refl))
 
-and_first : (a b : Bool) → (a && b) ≡ true → a ≡ true
-and_first true b h = refl
-and_first false b h = h
-
-and_second : (a b : Bool) → (a && b) ≡ true → b ≡ true
-and_second true b h = h
-and_second false b h = let no : ⊥ = cc in absurd no
-
 or_second : (a b : Bool) → (a || b) ≡ true → a ≡ false → b ≡ true
 or_second true b h e = let no : ⊥ = cc in absurd no
 or_second false b h e = h
@@ -210,8 +203,8 @@ or_second false b h e = h
 -- the value of an operator whose operands have the widths that it takes
 pub operated_lies : (o : Operation) (w w' : Width) (x y z : ℤ) → takes o w w' ≡ true → Lies w x → Lies w' y → values.operated o x y ≡ Ok z → Lies (given_by o) z
 operated_lies (op.Integer o rank) w w' x y z t lx ly h =
-    let left = and_first (fits_in w (ranked rank)) (is_shift o || fits_in w' (ranked rank)) t in
-    let right = and_second (fits_in w (ranked rank)) (is_shift o || fits_in w' (ranked rank)) t in
+    let left = both_first (fits_in w (ranked rank)) (is_shift o || fits_in w' (ranked rank)) t in
+    let right = both_second (fits_in w (ranked rank)) (is_shift o || fits_in w' (ranked rank)) t in
     arithmetic_lies o rank x y z (fits_lies w rank x left lx) (λ no_shift. fits_lies w' rank y (or_second (is_shift o) (fits_in w' (ranked rank)) right no_shift) ly) h
 operated_lies (op.Compare o) w w' x y z t lx ly h = subst (λ z. Lies W1 z) (ok_is _ z h) (truth_lies (values.comparison o x y))
 operated_lies (op.Advance size) w w' x y z t lx ly h = subst (λ z. Lies W8 z) (ok_is _ z h) (wrapped_lies W8 (x +ℤ scaled size y))

@@ -8,6 +8,7 @@ use Rattle.ib_act.specs.declared.act.Size.{Size}
 use Rattle.ib_act.specs.declared.act.Size.TheVariants.{Eight}
 use Rattle.ib_act.specs.declared.act.Act.TheVariants.{Const, Add, Sub, Mul, Div}
 use Rattle.ib_act.specs.Acts.{first_source, second_source}
+use Rattle.ib_meaning.proofs.Facts.{both_first, both_second, both as both_hold}
 use Rattle.c_meaning.specs.Doing as e
 use Rattle.c_meaning.specs.Doing.{Step, Doing, ◌>>=◌, pure, or_fault}
 use Rattle.c_typed.specs.declared.types.ValueType.{ValueType}
@@ -57,17 +58,6 @@ arithmetic_second ar.ShiftRight size to x y = refl
 arithmetic_second ar.BitAnd size to x y = refl
 arithmetic_second ar.BitXor size to x y = refl
 arithmetic_second ar.BitOr size to x y = refl
-
-and_first : (a b : Bool) → (a && b) ≡ true → a ≡ true
-and_first true b h = refl
-and_first false b h = h
-
-and_second : (a b : Bool) → (a && b) ≡ true → b ≡ true
-and_second true b h = h
-and_second false b h = absurd (apart h)
-  where
-    apart : false ≡ true → ⊥
-    apart h = cc
 
 module _ (C : Spot) where
   abbrev pub Room : ℕ → Type 0
@@ -139,7 +129,7 @@ module _ (C : Spot) where
         budget = f2.budget;
         match' = m3;
         kept = kept_on C r (r + 2) regs regs2 regs3 (omega arith) k12 (same_kept C (r + 2) regs2 regs3 same);
-        still = λ hq. f2.still (and_second q q' hq) ∙ f1.still (and_first q q' hq);
+        still = λ hq. f2.still (both_second q q' hq) ∙ f1.still (both_first q q' hq);
         lies = lies x y z f1.lies f2.lies ez;
       } in
       wrote C to r (q && q') w'' d n (goes c (closes n) o2) rest k regs t z regs3 u2 le f3 next))))))
@@ -178,7 +168,7 @@ module _ (C : Spot) where
     budget = a.budget;
     match' = a.match';
     kept = kept_on C r r regs regs1 regs2 (omega arith) l.kept a.kept;
-    still = λ h. a.still (and_second q q' h) ∙ l.still (and_first q q' h);
+    still = λ h. a.still (both_second q q' h) ∙ l.still (both_first q q' h);
     lies = a.lies;
   }
 
@@ -207,21 +197,17 @@ module _ (C : Spot) where
       (subst (λ kk. Follows C o (T ++ (A ++ (B ++ rest))) regs t (m kk t)) (fun_ext (λ v. inside (is_true v) k))
       (tc.by (entry a x out p.label) (entry b x out p'.label) o (A ++ (B ++ rest)) h1 d dc (ma k) (mb k) regs t qd mt
       (λ regs1 u l. nearly C.funcs C.places _ u _ (ga.own x s out p (B ++ rest) (empty_test c o) h2 d dc k regs1 u l.budget l.match' (λ v regs2 u2 f.
-      done v regs2 u2 (weaker r (q && qa) q' wa w d regs t v regs2 u2 (λ hq. let z = less hq in and_true q qa z.0 z.1) (lies_a v) (after_later r q qa wa d regs regs1 regs2 t u u2 v l f)))))
+      done v regs2 u2 (weaker r (q && qa) q' wa w d regs t v regs2 u2 (λ hq. let z = less hq in both_hold q qa z.0 z.1) (lies_a v) (after_later r q qa wa d regs regs1 regs2 t u u2 v l f)))))
       (λ regs1 u l. nearly C.funcs C.places _ u _ (gb.own x s out p' rest none h3 d dc k regs1 u l.budget l.match' (λ v regs2 u2 f.
-      done v regs2 u2 (weaker r (q && qb) q' wb w d regs t v regs2 u2 (λ hq. let z = less hq in and_true q qb z.0 z.2) (lies_b v) (after_later r q qb wb d regs regs1 regs2 t u u2 v l f))))))))
+      done v regs2 u2 (weaker r (q && qb) q' wb w d regs t v regs2 u2 (λ hq. let z = less hq in both_hold q qb z.0 z.2) (lies_b v) (after_later r q qb wb d regs regs1 regs2 t u u2 v l f))))))))
     where
       inside : (x : Bool) (k : ℤ → Step) → (if x then ma k else mb k) ≡ (if x then ma else mb) k
       inside true k = refl
       inside false k = refl
 
-      and_true : (a b : Bool) → a ≡ true → b ≡ true → (a && b) ≡ true
-      and_true true b h h2 = h2
-      and_true false b h h2 = h
-
   pub conditional_lowers : (ty : ValueType) (a b c : Exp) → Lowers C a → Lowers C b → Lowers C c → narrows (width_in b) (width_of ty) ≡ false → narrows (width_in c) (width_of ty) ≡ false → Lowers C (t.conditional ty a b c)
   conditional_lowers ty a b c la lb lc nb nc = plain_lowers C (t.conditional ty a b c) refl refl (λ s to r le.
       choose_gives s (tested C.p a s r) (low C.p b s to r) (low C.p c s to r) to r (is_quiet a) (is_quiet b) (is_quiet c) (is_quiet a && (is_quiet b && is_quiet c)) (width_of ty) (width_in b) (width_in c) (ev C a s) (ev C b s) (ev C c s)
       (la.tests s r le) (lb.gives s to r le) (lc.gives s to r le)
-      (λ h. let h1 = and_second (is_quiet a) (is_quiet b && is_quiet c) h in (and_first (is_quiet a) (is_quiet b && is_quiet c) h, and_first (is_quiet b) (is_quiet c) h1, and_second (is_quiet b) (is_quiet c) h1))
+      (λ h. let h1 = both_second (is_quiet a) (is_quiet b && is_quiet c) h in (both_first (is_quiet a) (is_quiet b && is_quiet c) h, both_first (is_quiet b) (is_quiet c) h1, both_second (is_quiet b) (is_quiet c) h1))
       (λ v l. wider (width_in b) (width_of ty) v nb l) (λ v l. wider (width_in c) (width_of ty) v nc l))

@@ -2,6 +2,7 @@
 use Rattle.std.proofs.Common.{◌≡◌, ℕ, suc, ◌+◌, ◌<◌, ◌≤◌, ◌%◌, ℤ, pos, List, [], ◌∷◌, ◌++◌, length, map, Bool, true, false, ◌&&◌, refl, sym, ap, ◌∙◌, subst, arith, Some, None}
 use Rattle.std.specs.Prelude.{slice_get, slice_index_or}
 use Rattle.std.proofs.lemmas.Option.{slice_get_within}
+use Rattle.ib_meaning.proofs.Facts.{both_first, both_second}
 use Rattle.c_meaning.specs.Doing as e
 use Rattle.c_meaning.specs.Doing.{Step, Doing}
 use Rattle.c_meaning.specs.Meaning.{evals}
@@ -25,17 +26,6 @@ use Rattle.tac_lowered.proofs.Constructs.{Lowers, Later, ev, plain_lowers}
 use Rattle.tac_lowered.proofs.Operations.{begins_behind, after_later}
 use Rattle.tac_lowered.proofs.Statements.{no_loss, told_in}
 use Rattle.tac_lowered.proofs.Widths.{wider}
-
-and_first : (a b : Bool) → (a && b) ≡ true → a ≡ true
-and_first true b h = refl
-and_first false b h = h
-
-and_second : (a b : Bool) → (a && b) ≡ true → b ≡ true
-and_second true b h = h
-and_second false b h = absurd (apart h)
-  where
-    apart : false ≡ true → ⊥
-    apart h = cc
 
 -- each of the registers is there
 abbrev Rooms : (regs : ℕ) → List ℕ → Type 0
@@ -95,7 +85,7 @@ module _ (C : Spot) where
         budget = g.budget;
         match' = g.match';
         kept = kept_on C r r1 regs regs1 regs2 up f.kept g.kept;
-        still = λ hq. g.still (and_second (is_quiet a) (are_quiet more) hq) ∙ f.still (and_first (is_quiet a) (are_quiet more) hq);
+        still = λ hq. g.still (both_second (is_quiet a) (are_quiet more) hq) ∙ f.still (both_first (is_quiet a) (are_quiet more) hq);
         here = ap (λ z. z ∷ map (reg_of regs2) (passed more r1)) ev' ∙ ap (λ zs. v ∷ zs) g.here;
       }) (wider (told a) (width_of x.ty) v (no_loss (told a) (width_of x.ty) fill.0) (wider (width_in a) (told a) v (told_in C.p C.kinds a keeps.0) f.lies), suit))))
 
@@ -142,7 +132,7 @@ module _ (C : Spot) where
   effects_follow t.no_exp lower s r le lp o rest h d dc k regs u q mt next = next [] regs u (record { budget = q; match' = mt; kept = kept_all C r regs; still = λ _. refl })
   effects_follow (t.an_exp a t.no_exp) lower s r le lp o rest h d dc k regs u q mt next =
       (lower.0.gives s None r le).by lp onward o rest h d dc (λ v. k (v ∷ [])) regs u q mt (λ v regs1 u f.
-      next (v ∷ []) regs1 u (record { budget = f.budget; match' = f.match'; kept = f.kept; still = λ hq. f.still (and_first (is_quiet a) true hq) }))
+      next (v ∷ []) regs1 u (record { budget = f.budget; match' = f.match'; kept = f.kept; still = λ hq. f.still (both_first (is_quiet a) true hq) }))
   effects_follow (t.an_exp a (t.an_exp b more)) lower s r le lp o rest h d dc k regs u q mt next =
       let A = low C.p a s None r in
       let B = effects C.p (t.an_exp b more) s r in
@@ -154,7 +144,7 @@ module _ (C : Spot) where
         budget = g.budget;
         match' = g.match';
         kept = kept_on C r r regs regs1 regs2 (omega arith) f.kept g.kept;
-        still = λ hq. g.still (and_second (is_quiet a) qb hq) ∙ f.still (and_first (is_quiet a) qb hq);
+        still = λ hq. g.still (both_second (is_quiet a) qb hq) ∙ f.still (both_first (is_quiet a) qb hq);
       }))))
 
   pub comma_lowers : (all : Exps) (a : Exp) → AllLower all → Lowers C a → Lowers C (t.comma all a)

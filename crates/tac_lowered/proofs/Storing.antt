@@ -1,5 +1,5 @@
 -- What is stored.
-use Rattle.std.proofs.Common.{◌≡◌, ℕ, ◌+◌, ◌≤◌, ℤ, pos, List, [], ◌++◌, Bool, true, false, ◌&&◌, refl, sym, ap, ◌∙◌, subst, arith, Option, Some, None}
+use Rattle.std.proofs.Common.{◌≡◌, ℕ, ◌+◌, ◌≤◌, ℤ, pos, List, [], ◌++◌, true, false, ◌&&◌, refl, sym, ap, ◌∙◌, subst, arith, Option, Some, None}
 use Rattle.std.specs.Int.{w64, cast_unsigned}
 use Rattle.std.proofs.lemmas.List.{append-nil}
 use Rattle.ib_base.specs.declared.integers.Width.{Width}
@@ -10,6 +10,7 @@ use Rattle.ib_meaning.specs.Agreement.{Report}
 use Rattle.ib_act.specs.declared.act.Act.TheVariants.{Store}
 use Rattle.ib_act.specs.Acts as acts
 use Rattle.ib_act.specs.Acts.{bytes_in}
+use Rattle.ib_meaning.proofs.Facts.{both_first, both_second}
 use Rattle.c_meaning.specs.Doing as e
 use Rattle.c_meaning.specs.Doing.{Step, Doing, ◌>>=◌, or_fault, store}
 use Rattle.c_typed.specs.declared.types.ValueType.{ValueType}
@@ -30,17 +31,6 @@ use Rattle.tac_lowered.proofs.Computing.{moved_follows}
 use Rattle.tac_lowered.proofs.Constructs.{Lowers, ev, plain_lowers}
 use Rattle.tac_lowered.proofs.Values.{own_address, bytes_same}
 use Rattle.tac_lowered.proofs.Widths.{in_eight, wider}
-
-and_first : (a b : Bool) → (a && b) ≡ true → a ≡ true
-and_first true b h = refl
-and_first false b h = h
-
-and_second : (a b : Bool) → (a && b) ≡ true → b ≡ true
-and_second true b h = h
-and_second false b h = absurd (apart h)
-  where
-    apart : false ≡ true → ⊥
-    apart h = cc
 
 store_acts : (w : Width) (j i base : ℕ) (regs : List ℤ) (memory left : List ℕ) → effect_of (Store w j (pos 0) i) base regs memory left ≡ stores (stored memory (acts.address (reg_of regs j) (pos 0)) (bytes_in w) (cast_unsigned w64 (reg_of regs i))) regs left
 unfolding effect_of
@@ -104,7 +94,7 @@ module _ (C : Spot) where
         budget = f2.budget;
         match' = m3;
         kept = kept_on C r (r + 1) regs regs1 regs2 (omega arith) f1.kept f2.kept;
-        still = λ hq. f2.still (and_second (is_quiet a) (is_quiet b) hq) ∙ f1.still (and_first (is_quiet a) (is_quiet b) hq);
+        still = λ hq. f2.still (both_second (is_quiet a) (is_quiet b) hq) ∙ f1.still (both_first (is_quiet a) (is_quiet b) hq);
         lies = wider (width_in b) (width_of ty) y whole f2.lies;
       } in
       moved_follows C s to rb lp n o3 rest regs2 u3 y (k y u3) hM ey (next y regs2 u3 f3)))))))))

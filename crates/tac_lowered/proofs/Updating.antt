@@ -1,5 +1,5 @@
 -- What is in memory is read, computed with and written.
-use Rattle.std.proofs.Common.{◌≡◌, ℕ, ◌+◌, ◌<◌, ◌≤◌, ℤ, pos, List, ◌++◌, length, Bool, true, false, ◌&&◌, refl, sym, ap, ◌∙◌, subst, arith, Some, Ok}
+use Rattle.std.proofs.Common.{◌≡◌, ℕ, ◌+◌, ◌<◌, ◌≤◌, ℤ, pos, List, ◌++◌, length, true, false, ◌&&◌, refl, sym, ap, ◌∙◌, subst, arith, Some, Ok}
 use Rattle.std.specs.Prelude.{slice_set}
 use Rattle.ib_base.specs.declared.integers.Width.TheVariants.{W8}
 use Rattle.ib_base.specs.Integers.{wrapped}
@@ -7,6 +7,7 @@ use Rattle.ib_mem.specs.Memory.{loaded}
 use Rattle.ib_act.specs.declared.act.Act.TheVariants.{Const, Load, Store}
 use Rattle.ib_act.specs.Acts as acts
 use Rattle.ib_act.specs.Acts.{read_as, bytes_in}
+use Rattle.ib_meaning.proofs.Facts.{both_first, both_second}
 use Rattle.c_meaning.specs.Doing as e
 use Rattle.c_meaning.specs.Doing.{Step, or_fault, load, store}
 use Rattle.c_typed.specs.declared.types.ValueType.{ValueType}
@@ -31,14 +32,6 @@ use Rattle.tac_lowered.proofs.Values.{result_follows, load_acts, load_as, read_l
 use Rattle.tac_lowered.proofs.Storing.{store_follows}
 use Rattle.tac_lowered.proofs.Assigning.{or_mapped, mapped_lies, assigned_room, assigned_computes}
 use Rattle.tac_lowered.proofs.Widths.{in_eight, wrapped_lies, one_lies}
-
-and_first : (a b : Bool) → (a && b) ≡ true → a ≡ true
-and_first true b h = refl
-and_first false b h = h
-
-and_second : (a b : Bool) → (a && b) ≡ true → b ≡ true
-and_second true b h = h
-and_second false b h = let no : ⊥ = cc in absurd no
 
 module _ (C : Spot) where
   -- what is at the address that is in one register goes to another
@@ -135,7 +128,7 @@ module _ (C : Spot) where
         budget = f3.budget;
         match' = stored_match memory regs5 u3 m5;
         kept = kept_on C r (r + 1) regs regs1 regs5 (omega arith) f1.kept kept5;
-        still = λ hq. f3.still (and_second qa qb hq) ∙ f1.still (and_first qa qb hq);
+        still = λ hq. f3.still (both_second qa qb hq) ∙ f1.still (both_first qa qb hq);
         lies = mapped_lies T g v ev';
       } in
       moved_follows C s to (r + 1) lp n p5 rest regs5 u4 v (k v u4) hM ev5 (next v regs5 u4 f4))))))))))))))

@@ -1,5 +1,5 @@
 -- Expressions that compute from registers.
-use Rattle.std.proofs.Common.{◌≡◌, ℕ, ◌+◌, ◌<◌, ◌≤◌, ℤ, pos, List, [], ◌++◌, Bool, true, false, ◌&&◌, refl, sym, ap, ◌∙◌, subst, arith, Option, Some, None, Result, Ok, Err, length, get_or-set_other}
+use Rattle.std.proofs.Common.{◌≡◌, ℕ, ◌+◌, ◌<◌, ◌≤◌, ℤ, pos, List, [], ◌++◌, Bool, true, false, refl, sym, ap, ◌∙◌, subst, arith, Option, Some, None, Result, Ok, Err, length, get_or-set_other}
 use Rattle.std.specs.Prelude.{slice_index_or, slice_set, ◌==◌, if◌then◌else◌, ◌+ℤ◌}
 use Rattle.std.proofs.lemmas.Bool.{eqb-true}
 use Rattle.std.proofs.lemmas.List.{set-get_or}
@@ -12,6 +12,7 @@ use Rattle.ib_act.specs.declared.act.Act.{Act}
 use Rattle.ib_act.specs.declared.act.Act.TheVariants.{Const, Mov, Load}
 use Rattle.ib_act.specs.Acts as acts
 use Rattle.ib_act.specs.Acts.{first_source, second_source, read_as, bytes_in}
+use Rattle.ib_meaning.proofs.Facts.{both_first, both_second}
 use Rattle.c_ast.specs.declared.tree.Base.TheVariants.{Void, Char, Int, Long}
 use Rattle.c_meaning.specs.Doing as e
 use Rattle.c_meaning.specs.Doing.{Step, Doing, ◌>>=◌, pure, or_fault, get_slot, set_slot, load}
@@ -33,14 +34,6 @@ use Rattle.tac_lowered.proofs.Gives.{After, Gives, plain_gives, Puts, set_same, 
 use Rattle.tac_lowered.proofs.Computing.{moved_follows, const_acts, mov_acts}
 use Rattle.tac_lowered.proofs.Constructs.{Lowers, GivesOf, ev, up, plain_lowers, settled_tests, on_tests}
 use Rattle.tac_lowered.proofs.Widths.{in_eight, wider, wrapped_lies}
-
-and_first : (a b : Bool) → (a && b) ≡ true → a ≡ true
-and_first true b h = refl
-and_first false b h = h
-
-and_second : (a b : Bool) → (a && b) ≡ true → b ≡ true
-and_second true b h = h
-and_second false b h = let z : ⊥ = cc in absurd z
 
 module _ (C : Spot) where
   -- an operation that gives a result in `j`, or the fault of its statement
@@ -233,8 +226,8 @@ module _ (C : Spot) where
   empty_items : (a : Code) → is_empty a ≡ true → (x : Loop) (o : Open) → (items a x onward o ≡ []) × (goes a false o ≡ o)
   empty_items nothing e x o = (refl, refl)
   empty_items (both a b) e x o =
-      let ea = empty_items a (and_first (is_empty a) (is_empty b) e) x o in
-      let eb = empty_items b (and_second (is_empty a) (is_empty b) e) x (goes a false o) in
+      let ea = empty_items a (both_first (is_empty a) (is_empty b) e) x o in
+      let eb = empty_items b (both_second (is_empty a) (is_empty b) e) x (goes a false o) in
       (ap (λ z. z ++ items b x onward (goes a false o)) ea.0 ∙ eb.0, eb.1 ∙ ea.1)
   empty_items a e x o = let no : ⊥ = cc in absurd no
 

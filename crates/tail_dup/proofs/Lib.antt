@@ -1,5 +1,6 @@
 pub mod Chained
 pub mod Copied
+pub mod Few
 pub mod Filled
 pub mod Leads
 pub mod Places

@@ -1,21 +1,24 @@
 -- A function is duplicated as its tables say, and a program function by function.
-use Rattle.std.proofs.Common.{◌≡◌, ◌+◌, ◌<◌, ◌≤◌, ◌++◌, ℕ, zero, suc, List, [], ◌∷◌, Option, Some, None, length, refl, sym, ap, ap₂, ◌∙◌, subst, ⊎_elim, arith, length-append}
+use Rattle.std.proofs.Common.{◌≡◌, ◌+◌, ◌*◌, ◌<◌, ◌≤◌, ◌++◌, ℕ, zero, suc, List, [], ◌∷◌, Option, Some, None, length, refl, sym, ap, ap₂, ◌∙◌, subst, ⊎_elim, arith, length-append}
 use Rattle.std.specs.Prelude.{slice_get, map}
 use Rattle.std.proofs.lemmas.Bool.{cases_lt}
+use Rattle.std.specs.List.{sum_by}
+use Rattle.std.proofs.lemmas.List.Sums.{sum_by-append}
 use Rattle.std.proofs.lemmas.Option.{slice_get_within, slice_get_past}
 use Rattle.tac_core.specs.declared.code.End.{End}
 use Rattle.tac_core.specs.declared.code.End.TheVariants.{Jump, Branch, Call, Ret}
 use Rattle.tac_core.specs.declared.code.Block.{Block}
 use Rattle.tac_core.specs.declared.code.TacFunc.{TacFunc}
-use Rattle.tac_core.specs.Program.{Program, with_funcs}
+use Rattle.tac_core.specs.Program.{Program, with_funcs, func_ops}
 use Rattle.tac_core.specs.Rules.{IsGoodEnd, IsGoodBlock, IsGoodFunc, IsValid}
 use Rattle.tac_core.specs.Counts.{IsTargetOf}
-use Rattle.tac_core.specs.Cover.{Origins, IsFuncFrom, AreFuncsFrom, Covers, IsBlockOf, origin_of, HasEachBlock}
-use Rattle.tac_core.specs.Traces.{Labels, StandsAt, AreChains, HasNoSideEntrance, AreChainsOf, AreFormed, FormedProgram}
+use Rattle.tac_core.specs.Cover.{Origins, IsFuncFrom, AreFuncsFrom, Covers, IsBlockOf, origin_of, HasEachBlock, AreWithin, AreFew, upto}
+use Rattle.tac_core.specs.Traces.{Labels, StandsAt, AreChains, HasNoSideEntrance, AreChainsOf, AreFormed, FormedProgram, ops_at}
 use Rattle.tac_core.proofs.Lists.{slice_get_front, All-get}
 use Rattle.tail_dup.specs.Duplicated.{AreCopies, IsDuplicated, IsDuplicate, HasDuplicate, AreDuplicated, origins_with, chains_with}
 use Rattle.tail_dup.specs.Tables.{AreBlocks, AreAllBlocks, AreAllTargets, AreTables, IsRebuilt, AreParts, led_block}
 use Rattle.tail_dup.proofs.Places.{found_at, behind_get}
+use Rattle.tail_dup.proofs.Few.{copy_ops, copies_ops, func_upto}
 use Rattle.tail_dup.proofs.Tails.{IsIn, of_tails}
 use Rattle.tail_dup.proofs.Leads.{given_led, copy_led}
 use Rattle.tail_dup.proofs.Copied.{func_from, from_itself}
@@ -169,6 +172,28 @@ module _ (p : Program) (traces : List (List Labels)) (gs : List TacFunc) (ts : L
       let one : f ≡ t.func = cc in
       let within : o < length t.func.blocks = subst (λ (z : TacFunc). o < length z.blocks) one lt in
       (o, ap (λ z. origin_of z o) (t.made.from_is ∙ ap Some t.made.is.from) ∙ from_itself (length t.func.blocks) t.made.is.copies o within)
+
+  few_at : (i : ℕ) → IsFound p.funcs traces gs ts os i → AreWithin 4 (slice_get gs i) (slice_get p.funcs i)
+  few_at i t =
+      let d = t.made.is in
+      let n : ℕ = length t.func.blocks in
+      let made : func_ops t.made.func ≡ sum_by (ops_at t.func) (origins_with n d.copies) =
+      copy_ops t.made.from t.made.func t.func (from_at i t) ∙ ap (sum_by (ops_at t.func)) d.from in
+      let both = sum_by-append (ops_at t.func) (upto n) d.copies in
+      let copies = copies_ops (ops_at t.func) n d.copied.entered t.chains d.copies t.chained.partition d.copied.are in
+      let own = func_upto t.func in
+      let few : func_ops t.made.func ≤ 4 * func_ops t.func = omega arith in
+      subst (λ z. AreWithin 4 z (slice_get p.funcs i)) (sym t.made.func_is) (subst (λ z. AreWithin 4 (Some t.made.func) z) (sym t.func_is) few)
+
+  none_few : (x y : Option TacFunc) → x ≡ None → AreWithin 4 x y
+  none_few x y e = subst (λ z. AreWithin 4 z y) (sym e) tt
+
+  pub parts_few : AreFew 4 (with_funcs p gs) p
+  parts_few i =
+      ⊎_elim
+      (λ lt. few_at i (found i lt))
+      (λ ge. let many = parts.many in none_few (slice_get gs i) (slice_get p.funcs i) (slice_get_past gs i (omega arith)))
+      (cases_lt i (length p.funcs))
 
   pub parts_whole : HasEachBlock os p
   parts_whole f o h' = block_at f o (slice_get p.funcs f) refl h'

@@ -1,6 +1,6 @@
 ghost use Rattle.std.specs.Prelude.{◌≡◌, IfOk, Some, length, slice_get};
 ghost use Rattle.ib_meaning.specs.Agreement.{Agrees, Within};
-ghost use Rattle.tac_core.specs.Cover.{HasEachBlock};
+ghost use Rattle.tac_core.specs.Cover.{HasEachBlock, AreFew};
 ghost use Rattle.tac_core.specs.Meaning.{tac_meaning};
 ghost use Rattle.tac_core.specs.Traces.{AreChainsOf, AreFormed};
 ghost use Rattle.tail_dup.specs.Duplicated.{AreDuplicated};
@@ -56,6 +56,7 @@ pub fn duplicate(alloc: Global, tac: &TacProgram, traces: &Traces) -> Result<For
     ensures from { IfOk result (λ formed. formed.copied.from ≡ tac.now) }
     ensures duplicated { IfOk result (λ formed. AreDuplicated tac.now.funcs traces.now formed) }
     ensures all { IfOk result (λ formed. HasEachBlock formed.copied.origins tac.now) }
+    ensures few { IfOk result (λ formed. AreFew 4 formed.copied.tac tac.now) }
     ensures formed { IfOk result (λ formed. AreFormed formed.copied.tac.funcs formed.traces) }
     ensures agrees { IfOk result (λ formed. Agrees (tac_meaning tac.now) (tac_meaning formed.copied.tac)) }
     ensures within { IfOk result (λ formed. Within (λ n. n) (tac_meaning tac.now) (tac_meaning formed.copied.tac)) }

@@ -1,9 +1,10 @@
 use Rattle.std.proofs.Common.{◌≡◌, List, length, subst, sym, ap, ◌∙◌}
 use Rattle.tac_core.specs.declared.code.TacFunc.{TacFunc}
-use Rattle.tac_core.specs.Cover.{CopiedProgram, HasEachBlock}
+use Rattle.tac_core.specs.Cover.{CopiedProgram, HasEachBlock, AreFew}
+use Rattle.tac_core.specs.Program.{Program}
 use Rattle.tac_core.specs.Traces.{AreFormed, FormedProgram}
 use Rattle.tail_dup.specs.Tables.{AreParts}
-use Rattle.tail_dup.proofs.Whole.{parts_cover, parts_formed, parts_whole, parts_duplicated}
+use Rattle.tail_dup.proofs.Whole.{parts_cover, parts_formed, parts_whole, parts_few, parts_duplicated}
 use Rattle.tail_dup.proofs.program.duplicate.Goals as goal
 
 pub of-requires : goal.of-requires
@@ -33,3 +34,10 @@ returns-clause-all c =
     subst (λ z. HasEachBlock z c.args.tac.now)
     (sym (ap (λ (v : FormedProgram). v.copied.origins) c.keep-2.ensures ∙ ap (λ (v : CopiedProgram). v.origins) c.in_ok-copied.ensures.value))
     (parts_whole c.args.tac.now c.args.traces.now c.in_ok-parts.parts.funcs c.in_ok-parts.parts.traces c.in_ok-parts.parts.origins c.funcs.ensures.valid c.requires parts)
+
+pub returns-clause-few : goal.returns-clause-few
+returns-clause-few c =
+    let parts = subst (λ (z : List TacFunc). AreParts z c.args.traces.now (length z) c.in_ok-parts.parts.funcs c.in_ok-parts.parts.traces c.in_ok-parts.parts.origins) c.funcs.ensures.value c.in_ok-parts.ensures in
+    subst (λ (z : Program). AreFew 4 z c.args.tac.now)
+    (sym (ap (λ (v : FormedProgram). v.copied.tac) c.keep-2.ensures ∙ ap (λ (v : CopiedProgram). v.tac) c.in_ok-copied.ensures.value))
+    (parts_few c.args.tac.now c.args.traces.now c.in_ok-parts.parts.funcs c.in_ok-parts.parts.traces c.in_ok-parts.parts.origins c.funcs.ensures.valid c.requires parts)

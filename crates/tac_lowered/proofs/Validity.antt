@@ -22,6 +22,7 @@ use Rattle.tac_core.specs.declared.code.End.TheVariants.{Jump, Branch, Call, Ret
 use Rattle.tac_core.specs.declared.code.TacFunc.{TacFunc}
 use Rattle.tac_core.specs.Rules.{IsRegister, IsGoodAct, IsGoodOp, Takes, IsGoodEnd, IsGoodBlock, IsGoodFunc, IsMain, IsName, IsValid, AreDistinct}
 use Rattle.tac_lowered.specs.Items.{Item, Do, Close, ops_of, end_of, stmt_of, block_of, rest_of, blocks, Open, fresh, counted, goes, onward, Loop}
+use Rattle.tac_lowered.specs.Statements.{low_stms}
 use Rattle.tac_lowered.specs.Lowered.{behind_home, behind_params, up_to, up_to_all, up_to_end, registers, home_in, params_in, nowhere, stored, all_stored, free_in, body_of, items_of, lowered_function, lowered}
 use Rattle.c_kept.specs.Kept.{HasHome, HaveHomes, slots_of, KeepsFunction, KeepsProgram}
 use Rattle.tac_lowered.specs.Numbered.{NumbersStm, NumbersStms, KeepsNumbers}
@@ -211,6 +212,11 @@ module _ (p : typed.Program) (sound : KeepsProgram p) (numbers : KeepsNumbers p)
   all_stored_keep : (qs : List Param) (r free : ℕ) → KeepsCode places (Takes funcs) false (all_stored p qs r free)
   all_stored_keep [] r free = tt
   all_stored_keep (q ∷ qs) r free = (stored_keeps q.ty q.home r free, all_stored_keep qs (behind_home q.home r) free)
+
+  -- What is of a body has its statements' numbers: the place behind the last, 1:1, is that of parameters that are stored in the
+  -- frame, where no access faults, and of the end that falls off the body.
+  pub of_statements : (f : Function) → KeepsFunction p f → NumbersStms (length p.places) f.body → (r : ℕ) → KeepsCode (length p.places) (Takes funcs) false (low_stms p f.body r)
+  of_statements f k n r = stms_keep p k.kinds (length p.places) (Takes funcs) calls_take f.result f.body false k.body n r
 
   no_loop : false ≡ true → ⊥
   no_loop h = cc

@@ -13,8 +13,6 @@ mod outcome;
 mod real_host;
 mod span;
 mod stream;
-#[cfg(test)]
-mod tests;
 mod text;
 
 pub use host::{Host, HostErr};
@@ -24,4 +22,5 @@ pub use mem_host::MemHost;
 pub use outcome::{Outcome, RunErr};
 pub use real_host::RealHost;
 pub use span::Span;
+pub use stream::{read_beginning, write_whole};
 pub use text::Text;

@@ -5,8 +5,9 @@ use crate::host::HostErr;
 use std::alloc::Global;
 use std::io::{ErrorKind, Read, Write};
 
-/// Reads to the end, or the first `limit + 1` bytes, piece by piece.
-pub(crate) fn read_beginning<F: Read>(
+/// Reads to the end, or the first `limit + 1` bytes, piece by piece, and goes on after an
+/// interruption.
+pub fn read_beginning<F: Read>(
     alloc: Global,
     file: &mut F,
     limit: usize,
@@ -57,8 +58,8 @@ pub(crate) fn read_byte<F: Read>(input: &mut F) -> Result<Option<u8>, HostErr> {
     Ok(if taken == 0 { None } else { Some(byte[0]) })
 }
 
-/// Writes all the bytes.
-pub(crate) fn write_whole<W: Write>(writer: &mut W, bytes: &[u8]) -> Result<(), HostErr>
+/// Writes all the bytes, and goes on after an interruption.
+pub fn write_whole<W: Write>(writer: &mut W, bytes: &[u8]) -> Result<(), HostErr>
     ensures { OnOk result (Appends (W.contents writer.old) (W.contents writer.new) bytes.now) }
 {
     let mut rest = bytes;

@@ -4,7 +4,5 @@
 mod memory;
 mod number;
 mod parts;
-#[cfg(test)]
-mod tests;
 
 pub use memory::Memory;

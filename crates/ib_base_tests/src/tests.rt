@@ -1,7 +1,6 @@
 ghost use Rattle.std.specs.Prelude.{◌≡◌, IfOk};
 
-use crate::stream::{read_beginning, write_whole};
-use crate::{Host, HostErr, MemHost, RealHost};
+use ib_base::{Host, HostErr, MemHost, RealHost, read_beginning, write_whole};
 use std::alloc::{AllocError, Global};
 use std::io::{ErrorKind, Read, Write};
 use std::{fs, io};

@@ -1,2 +1,2 @@
-mod Tokens
+pub mod Tokens
 pub mod Trees

@@ -2,9 +2,13 @@
 use Rattle.std.proofs.Common.{◌≡◌, [], ◌∷◌, false, true, refl}
 use Rattle.c_ast.specs.declared.tree.Base.TheVariants.{Char, Void}
 use Rattle.c_typed.specs.declared.types.ValueType.TheVariants.{Base}
+use Rattle.c_typed.specs.declared.operation.Rank.TheVariants as rank
+use Rattle.c_typed.specs.declared.operation.Arithmetic.TheVariants.{Add}
+use Rattle.c_typed.specs.declared.operation.Operation.TheVariants.{Integer}
 use Rattle.c_typed.specs.ValueTypes.{int, long}
-use Rattle.c_typed.specs.Tree.{slot, set_slot, load, expression, break, while_loop, convert}
+use Rattle.c_typed.specs.Tree.{slot, set_slot, load, expression, break, while_loop, convert, binary}
 use Rattle.c_typed.specs.Program.{Program}
+use Rattle.c_kept.specs.Weights.{weight}
 use Rattle.c_kept.specs.Kept.{KeepsExp, KeepsStm}
 
 apart : false ≡ true → ⊥
@@ -32,3 +36,7 @@ module _ (p : Program) where
   -- nothing of type void is read
   no_value : KeepsExp p (long ∷ []) (load (Base Void) (slot long 0)) → ⊥
   no_value h = apart h.1
+
+  -- x + c, where c is a char: two variables, a conversion and the sum
+  four_nodes : weight (binary int (Integer Add rank.Int) (slot int 0) (convert int (slot (Base Char) 1))) ≡ 4
+  four_nodes = refl

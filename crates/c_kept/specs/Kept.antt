@@ -1,4 +1,4 @@
--- What a typed program keeps: the code that is made of it relies on it.
+-- What a typed program keeps: its lowering relies on it.
 use Rattle.std.specs.Prelude.{◌≡◌, ℕ, ◌+◌, ◌<◌, ◌≤◌, ◌%◌, ◌==◌, ◌&&◌, ◌||◌, not, List, [], ◌∷◌, Some, Bool, true, false, length, slice_get, MatchOption}
 use Rattle.std.specs.List.{All, AllPairs}
 use Rattle.ib_base.specs.declared.integers.Width.{Width}

@@ -1,3 +1,4 @@
 pub mod WellFormed
 pub mod Kept
 pub mod Numbered
+pub mod Weights

@@ -87,7 +87,7 @@ good_head head none =
 
 -- ---- parameters
 
-typed_length : (homes : List Home) (k : ℕ) (xs : List c.Par) → length (params_typed homes k xs) ≡ length xs
+pub typed_length : (homes : List Home) (k : ℕ) (xs : List c.Par) → length (params_typed homes k xs) ≡ length xs
 typed_length homes k [] = refl
 typed_length homes k (x ∷ xs) = ap suc (typed_length homes (suc k) xs)
 

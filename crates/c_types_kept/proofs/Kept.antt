@@ -4,6 +4,9 @@ use Rattle.std.specs.Prelude.{slice_get, MatchOption, bytes_eq, codes, find}
 use Rattle.std.specs.List.{All, list_any}
 use Rattle.std.proofs.lemmas.List.Elements.{All-nil, All-cons}
 use Rattle.std.proofs.lemmas.Slice.Eq.{bytes_eq-Decides}
+use Rattle.c_ast.specs.declared.token.Token.{Token}
+use Rattle.c_ast.specs.Cut.{AreTokens}
+use Rattle.c_ast.specs.Grammar.{IsUnit}
 use Rattle.c_ast.specs.Trees as c
 use Rattle.c_typed.specs.declared.rule.Rule.TheVariants.{NoMain}
 use Rattle.c_typed.specs.Program.{Program, main_in}
@@ -19,14 +22,19 @@ use Rattle.c_types_functions.specs.Functions.{Head, bodies, is_main, lacks_main,
 use Rattle.c_types.specs.Units.{Parts, items, past_items, file_start, whole_breaches, judged}
 use Rattle.c_types.specs.Typing.{program_from, verdict, verdict_of, keeps_rules}
 use Rattle.c_program.specs.Limits.{globals_limit, is_large, framed, limited, within, large_globals, program_of}
+use Rattle.c_formed.proofs.Tokens.{AreBytes}
+use Rattle.c_formed.proofs.Trees.{source_formed}
 use Rattle.c_kept.specs.Kept.{KeepsFunction, KeepsProgram}
 use Rattle.c_kept.specs.Numbered.{KeepsNumbers}
+use Rattle.c_kept.specs.Weights.{KeepsWeights}
 use Rattle.c_kept.specs.WellFormed.{FormedUnit}
+use Rattle.c_program.specs.Nodes.{nodes_unit}
 use Rattle.c_types_kept.proofs.Judgements.{differ, by_test, Gives, beside, first_none, second_none, not_so}
 use Rattle.c_types_kept.proofs.Statements.{not_false}
 use Rattle.c_types_kept.proofs.Names.{AreMade, known_kept}
 use Rattle.c_types_kept.proofs.Numbers.{AreNumbered, numbered_all, items_numbered, all_named, bodies_differ}
 use Rattle.c_types_kept.proofs.Programs.{AllMade, all_made, AreKept, all_kept}
+use Rattle.c_types_kept.proofs.StatementWeights.{all_slots, items_light}
 
 -- ---- addresses
 
@@ -177,3 +185,18 @@ typed_keeps unit p formed e = let h = judged_comes unit p (judged unit) refl e i
 
 pub typed_numbers : (unit : List c.Top) (p : Program) → FormedUnit unit → verdict unit ≡ keeps_rules (within p) → KeepsNumbers p
 typed_numbers unit p formed e = let h = judged_comes unit p (judged unit) refl e in subst KeepsNumbers (sym h.whole) (numbers_kept unit formed h.parts h.typed)
+
+-- Its tree has at most four nodes for each of the source's, and its functions set the slots that they have.
+pub typed_weighs : (unit : List c.Top) (p : Program) → verdict unit ≡ keeps_rules (within p) → KeepsWeights (nodes_unit unit) p
+typed_weighs unit p e =
+    let h = judged_comes unit p (judged unit) refl e in
+    let Γ : Scope = record { scopes = [] ∷ []; functions = functions_known unit } in
+    let light = beside (whole_breaches (lacks_main unit) unit) (items (with_body unit) Γ file_start unit) (λ none. items_light (with_body unit) Γ file_start unit) in
+    let parts = light.by h.parts h.typed in
+    subst (KeepsWeights (nodes_unit unit)) (sym h.whole) (record { light = parts.0; slots = all_slots h.parts.functions parts.1 })
+
+-- Whatever bytes are a source, what is typed of it within the limits keeps all of this.
+pub source_keeps : (source : List ℕ) (tokens : List Token) (unit : List c.Top) (p : Program) → AreBytes source → AreTokens source tokens → IsUnit tokens unit → verdict unit ≡ keeps_rules (within p) → KeepsProgram p × KeepsNumbers p × KeepsWeights (nodes_unit unit) p
+source_keeps source tokens unit p bytes are is e =
+    let formed = source_formed source tokens unit bytes are is in
+    (typed_keeps unit p formed e, typed_numbers unit p formed e, typed_weighs unit p e)

@@ -10,4 +10,6 @@ mod Names
 mod Functions
 mod Programs
 mod Numbers
+mod ExpressionWeights
+mod StatementWeights
 pub mod Kept

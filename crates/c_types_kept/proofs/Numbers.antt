@@ -28,7 +28,7 @@ use Rattle.c_types_kept.proofs.Room.{Room, room_first, room_second, room_one}
 use Rattle.c_types_kept.proofs.Statements.{or_first}
 use Rattle.c_types_kept.proofs.Names.{AreMade}
 
-anything : {A : Type 0} (j : Judged A) → Gives (λ a. Unit {0}) j
+pub anything : {A : Type 0} (j : Judged A) → Gives (λ a. Unit {0}) j
 anything j = record { by = λ a is. tt }
 
 -- ---- statements

@@ -11,6 +11,7 @@ use Rattle.c_ast.specs.Trees as c
 use Rattle.c_typed.specs.declared.rule.Rule.TheVariants.{NoMain}
 use Rattle.c_typed.specs.Program.{Program, main_in}
 use Rattle.c_typed.specs.Tree as t
+use Rattle.c_scopes.specs.Scopes.{outermost}
 use Rattle.c_layout.specs.declared.data.GlobalData.{GlobalData}
 use Rattle.c_layout.specs.Layout.{Texts, first_address, start_of, addresses, behind, text_addresses, behind_texts, image_size}
 use Rattle.c_layout.specs.Sizes.{bytes_of}
@@ -104,7 +105,7 @@ pub record IsFile (unit : List c.Top) (parts : Parts) : Type 0 where
 
 file_made : (unit : List c.Top) → FormedUnit unit → Gives (IsFile unit) (judged unit)
 file_made unit formed =
-    let Γ : Scope = record { scopes = [] ∷ []; functions = functions_known unit } in
+    let Γ : Scope = record { scopes = outermost; functions = functions_known unit } in
     beside (whole_breaches (lacks_main unit) unit) (items (with_body unit) Γ file_start unit) (λ none.
     let made = all_made (with_body unit) Γ file_start unit formed in
     record {
@@ -124,7 +125,7 @@ module _ (unit : List c.Top) (formed : FormedUnit unit) (parts : Parts) (typed :
 
   functions_kept : AreKept whole parts.functions
   functions_kept =
-      let Γ : Scope = record { scopes = [] ∷ []; functions = functions_known unit } in
+      let Γ : Scope = record { scopes = outermost; functions = functions_known unit } in
       let file = (file_made unit formed).by parts typed in
       let strings = texts_many (behind first_address parts.globals) texts in
       let globals = addresses_many first_address parts.globals in
@@ -135,7 +136,7 @@ module _ (unit : List c.Top) (formed : FormedUnit unit) (parts : Parts) (typed :
 
   statements_numbered : AreNumbered (length whole.places) parts.functions
   statements_numbered =
-      let Γ : Scope = record { scopes = [] ∷ []; functions = functions_known unit } in
+      let Γ : Scope = record { scopes = outermost; functions = functions_known unit } in
       let numbered = beside (whole_breaches (lacks_main unit) unit) (items (with_body unit) Γ file_start unit) (λ none.
       items_numbered (length whole.places) (with_body unit) Γ file_start unit (le_refl (length whole.places))) in
       numbered.by parts typed
@@ -171,7 +172,7 @@ pub record Comes (unit : List c.Top) (p : Program) : Type 0 where
   pub frames : find is_large parts.functions ≡ None
 
 judged_comes : (unit : List c.Top) (p : Program) (j : Judged Parts) → judged unit ≡ j → verdict_of j (past_items unit file_start) ≡ keeps_rules (within p) → Comes unit p
-judged_comes unit p (Broken found) is e = let z : ⊥ = cc in absurd z
+judged_comes unit p (Broken first more) is e = let z : ⊥ = cc in absurd z
 judged_comes unit p (Fine parts) is e =
     let at = past_items unit file_start in
     let bytes = image_size parts.globals at.texts in
@@ -190,7 +191,7 @@ typed_numbers unit p formed e = let h = judged_comes unit p (judged unit) refl e
 pub typed_weighs : (unit : List c.Top) (p : Program) → verdict unit ≡ keeps_rules (within p) → KeepsWeights (nodes_unit unit) p
 typed_weighs unit p e =
     let h = judged_comes unit p (judged unit) refl e in
-    let Γ : Scope = record { scopes = [] ∷ []; functions = functions_known unit } in
+    let Γ : Scope = record { scopes = outermost; functions = functions_known unit } in
     let light = beside (whole_breaches (lacks_main unit) unit) (items (with_body unit) Γ file_start unit) (λ none. items_light (with_body unit) Γ file_start unit) in
     let parts = light.by h.parts h.typed in
     subst (KeepsWeights (nodes_unit unit)) (sym h.whole) (record { light = parts.0; slots = all_slots h.parts.functions parts.1 })

@@ -17,9 +17,12 @@ module _ {A : Type 0} (P : A → Type 0) where
   AllMean [] = Unit {0}
   AllMean (entry ∷ scope) = P entry.meant × AllMean scope
 
-  abbrev pub AllInMean : List (s.Scope A) → Type 0
-  AllInMean [] = Unit {0}
-  AllInMean (scope ∷ outer) = AllMean scope × AllInMean outer
+  abbrev AllAround : List (s.Scope A) → Type 0
+  AllAround [] = Unit {0}
+  AllAround (scope ∷ around) = AllMean scope × AllAround around
+
+  abbrev pub AllInMean : s.Scopes A → Type 0
+  AllInMean scopes = AllMean scopes.innermost × AllAround scopes.around
 
   pub meaning_is : (name : List ℕ) (scope : s.Scope A) → AllMean scope → Yields P (meaning name scope)
   meaning_is name [] h = none
@@ -29,9 +32,12 @@ module _ {A : Type 0} (P : A → Type 0) where
   outer_is (Some x) b g h = g
   outer_is None b g h = h
 
-  pub found_is : (name : List ℕ) (scopes : List (s.Scope A)) → AllInMean scopes → Yields P (s.found name scopes)
-  found_is name [] h = none
-  found_is name (scope ∷ outer) h = outer_is (meaning name scope) (s.found name outer) (meaning_is name scope h.0) (found_is name outer h.1)
+  around_is : (name : List ℕ) (scopes : List (s.Scope A)) → AllAround scopes → Yields P (s.first_meaning name scopes)
+  around_is name [] h = none
+  around_is name (scope ∷ around) h = outer_is (meaning name scope) (s.first_meaning name around) (meaning_is name scope h.0) (around_is name around h.1)
+
+  pub found_is : (name : List ℕ) (scopes : s.Scopes A) → AllInMean scopes → Yields P (s.found name scopes)
+  found_is name scopes h = outer_is (meaning name scopes.innermost) (s.first_meaning name scopes.around) (meaning_is name scopes.innermost h.0) (around_is name scopes.around h.1)
 
   behind_all : (scope : s.Scope A) (entry : Named A) → AllMean scope → P entry.meant → AllMean (scope ++ (entry ∷ []))
   behind_all [] entry h k = (k, tt)
@@ -40,9 +46,8 @@ module _ {A : Type 0} (P : A → Type 0) where
   pub with_name_is : (name : List ℕ) (meant : A) (scope : s.Scope A) → AllMean scope → P meant → AllMean (with_name name meant scope)
   with_name_is name meant scope h k = by_test AllMean (is_some (meaning name scope)) scope (scope ++ (record { name = name; meant = meant } ∷ [])) (λ _. h) (λ _. behind_all scope (record { name = name; meant = meant }) h k)
 
-  declared_is : (name : List ℕ) (meant : A) (scopes : List (s.Scope A)) → AllInMean scopes → P meant → AllInMean (declared name meant scopes)
-  declared_is name meant [] h k = h
-  declared_is name meant (scope ∷ outer) h k = (with_name_is name meant scope h.0 k, h.1)
+  declared_is : (name : List ℕ) (meant : A) (scopes : s.Scopes A) → AllInMean scopes → P meant → AllInMean (declared name meant scopes)
+  declared_is name meant scopes h k = (with_name_is name meant scopes.innermost h.0 k, h.1)
 
 -- ---- in a function of a program with such variables
 

@@ -1,5 +1,5 @@
 -- What keeps the rules of a typed program, and what does not.
-use Rattle.std.proofs.Common.{◌≡◌, [], ◌∷◌, false, true, refl}
+use Rattle.std.proofs.Common.{◌≡◌, [], ◌∷◌, false, true, refl, arith}
 use Rattle.c_ast.specs.declared.tree.Base.TheVariants.{Char, Void}
 use Rattle.c_typed.specs.declared.types.ValueType.TheVariants.{Base}
 use Rattle.c_typed.specs.declared.operation.Rank.TheVariants as rank
@@ -10,6 +10,7 @@ use Rattle.c_typed.specs.Tree.{slot, set_slot, load, expression, break, while_lo
 use Rattle.c_typed.specs.Program.{Program}
 use Rattle.c_kept.specs.Weights.{weight}
 use Rattle.c_kept.specs.Kept.{KeepsExp, KeepsStm}
+use Rattle.c_kept.specs.Numbered.{NumbersStm}
 
 apart : false ≡ true → ⊥
 apart h = cc
@@ -40,3 +41,10 @@ module _ (p : Program) where
   -- x + c, where c is a char: two variables, a conversion and the sum
   four_nodes : weight (binary int (Integer Add rank.Int) (slot int 0) (convert int (slot (Base Char) 1))) ≡ 4
   four_nodes = refl
+
+-- the number of each statement is that of a place
+numbered : NumbersStm 1 (while_loop 0 (slot int 0) (break 0))
+numbered = (omega arith, omega arith)
+
+beyond : NumbersStm 1 (while_loop 0 (slot int 0) (break 1)) → ⊥
+beyond h = omega (arith, h.1)

@@ -34,7 +34,7 @@ use Rattle.tac_lowered.specs.Operators.{moved, number, or_else, narrows, cut, co
 use Rattle.tac_lowered.specs.Expressions.{held, at, behind_operand, is_empty, known, address, address_at, indexed, low, low_all, effects, test, are_quiet, is_quiet, width_in}
 use Rattle.tac_lowered.specs.Statements.{low_stm, low_stms, returned, test_part}
 use Rattle.tac_lowered.specs.Lowered.{behind_home, nowhere, stored, all_stored, free_in, body_of, items_of, lowered_function}
-use Rattle.tac_lowered.specs.Weights.{weight, weights, weight_part, weight_stm, weight_stms, weight_function}
+use Rattle.c_kept.specs.Weights.{weight, weights, weight_part, weight_stm, weight_stms, weight_function}
 
 -- ---- code
 

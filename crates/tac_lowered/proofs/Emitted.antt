@@ -33,7 +33,7 @@ use Rattle.tac_lowered.specs.Operators.{moved, number, or_else, narrows, cut, co
 use Rattle.tac_lowered.specs.Expressions.{held, at, behind_operand, is_empty, known, passed, address, address_at, indexed, low, low_all, effects, test, are_quiet, is_quiet, width_in}
 use Rattle.tac_lowered.specs.Statements.{low_stm, low_stms, returned, test_part}
 use Rattle.c_kept.specs.Kept.{Fill, KeepsExp, KeepsExps, KeepsPart, Returns, KeepsStm, KeepsStms}
-use Rattle.tac_lowered.specs.Numbered.{NumbersStm, NumbersStms}
+use Rattle.c_kept.specs.Numbered.{NumbersStm, NumbersStms}
 use Rattle.tac_lowered.proofs.Shapes.{KeepsCode, KeepsTest}
 
 arithmetic_good : (o : Arithmetic) (size : Size) (to x y : ℕ) → HasGoodNumber (arithmetic o size to x y)

@@ -14,13 +14,13 @@ pub mod Geometry
 pub mod Gives
 pub mod Lowering
 pub mod Lying
+pub mod Names
 pub mod Operations
 pub mod Passing
 pub mod Prologue
 pub mod Relation
 pub mod Shapes
 pub mod Signs
-mod NumberedRows
 pub mod Statements
 pub mod Storing
 pub mod Updating

@@ -25,11 +25,12 @@ use Rattle.tac_lowered.specs.Items.{Item, Do, Close, ops_of, end_of, stmt_of, bl
 use Rattle.tac_lowered.specs.Statements.{low_stms}
 use Rattle.tac_lowered.specs.Lowered.{behind_home, behind_params, up_to, up_to_all, up_to_end, registers, home_in, params_in, nowhere, stored, all_stored, free_in, body_of, items_of, lowered_function, lowered}
 use Rattle.c_kept.specs.Kept.{HasHome, HaveHomes, slots_of, KeepsFunction, KeepsProgram}
-use Rattle.tac_lowered.specs.Numbered.{NumbersStm, NumbersStms, KeepsNumbers}
+use Rattle.c_kept.specs.Numbered.{NumbersStm, NumbersStms, KeepsNumbers}
 use Rattle.tac_lowered.proofs.Geometry.{run, runs, up_least, do_least, close_least, at_least}
 use Rattle.tac_lowered.proofs.Shapes.{KeepsCode, Leads, Good, good_items}
 use Rattle.tac_lowered.proofs.Emitted.{at_base, stms_keep}
 use Rattle.tac_lowered.proofs.Entry.{home_behind, params_behind, map_get}
+use Rattle.tac_lowered.proofs.Names.{name_kept}
 
 -- ---- blocks of good items
 
@@ -286,7 +287,7 @@ module _ (p : typed.Program) (sound : KeepsProgram p) (numbers : KeepsNumbers p)
   pub lowered_valid : IsValid (lowered p)
   lowered_valid = record {
     small = sound.image;
-    each = All-map (IsGoodFunc places funcs) (lowered_function p) p.functions (λ k d lt. function_good (slice_index_or p.functions k d) (sound.functions k d lt) (numbers.statements k d lt) (numbers.named k d lt));
+    each = All-map (IsGoodFunc places funcs) (lowered_function p) p.functions (λ k d lt. function_good (slice_index_or p.functions k d) (sound.functions k d lt) (numbers.statements k d lt) (name_kept (slice_index_or p.functions k d).name (numbers.named k d lt)));
     differ = names_differ;
     main = main_of_parts (slice_get p.functions (typed.main_of p)) refl sound.main;
   }

@@ -3,7 +3,5 @@ pub mod Code
 pub mod Expressions
 pub mod Items
 pub mod Lowered
-pub mod Numbered
 pub mod Operators
 pub mod Statements
-pub mod Weights

@@ -1,5 +1,5 @@
 -- How many operations a node is lowered to.
-use Rattle.std.proofs.Common.{◌≡◌, ℕ, suc, ◌+◌, ◌*◌, ◌≤◌, ℤ, pos, List, [], ◌∷◌, ◌++◌, length, length-append, Bool, true, false, refl, arith, Option, Some, None}
+use Rattle.std.proofs.Common.{◌≡◌, ℕ, suc, ◌+◌, ◌*◌, ◌≤◌, ℤ, pos, List, [], ◌∷◌, ◌++◌, length, length-append, map, Bool, true, false, refl, arith, Option, Some, None}
 use Rattle.std.specs.Prelude.{slice_index_or, ◌==◌, if◌then◌else◌, nat_lt}
 use Rattle.std.specs.List.{sum_by}
 use Rattle.std.proofs.lemmas.Bool.{ltb-true}
@@ -27,14 +27,14 @@ use Rattle.c_typed.specs.Values as values
 use Rattle.c_typed.specs.Values.{width_of}
 use Rattle.tac_core.specs.declared.code.End.{End}
 use Rattle.tac_core.specs.declared.code.End.TheVariants.{Jump, Ret}
-use Rattle.tac_core.specs.Program.{block_ops, func_ops}
+use Rattle.tac_core.specs.Program.{block_ops, func_ops, program_ops}
 use Rattle.tac_lowered.specs.Code.{Code, nothing, does, both, calls, when, choose, repeat, until, leave, Test, settled, on, all_of, one_of, inverse}
 use Rattle.tac_lowered.specs.Items.{Item, Do, Close, ops_of, block_of, rest_of, Open, fresh, fresh_if, is_full, counted, after, is_jump, owned, goes, goes_test, Loop, Next, onward, jump, closes, close, label_of, put, entry, own_items, items, test_items}
 use Rattle.tac_lowered.specs.Operators.{moved, number, or_else, narrows, cut, converted, scaled, operated, given_by, assigned, sign}
 use Rattle.tac_lowered.specs.Expressions.{held, at, behind_operand, is_empty, known, address, address_at, indexed, low, low_all, effects, test, are_quiet, is_quiet, width_in}
 use Rattle.tac_lowered.specs.Statements.{low_stm, low_stms, returned, test_part}
-use Rattle.tac_lowered.specs.Lowered.{behind_home, nowhere, stored, all_stored, free_in, body_of, items_of, lowered_function}
-use Rattle.c_kept.specs.Weights.{weight, weights, weight_part, weight_stm, weight_stms, weight_function}
+use Rattle.tac_lowered.specs.Lowered.{behind_home, nowhere, stored, all_stored, free_in, body_of, items_of, lowered_function, lowered}
+use Rattle.c_kept.specs.Weights.{weight, weights, weight_part, weight_stm, weight_stms, weight_function, weight_functions, KeepsWeights}
 
 -- ---- code
 
@@ -432,3 +432,22 @@ module _ (p : Program) where
       let e4 = many_ops (nowhere p) (Ret None) is in
       let e5 = sum_by-cons block_ops (block_of (nowhere p) (Ret None) is) (rest_of (nowhere p) (Ret None) is) in
       omega (arith, e1, e2, e3, e4, e5)
+
+  functions_cost : (fs : List Function) → sum_by func_ops (map (lowered_function p) fs) ≤ 10 * weight_functions fs
+  functions_cost [] = omega arith
+  functions_cost (f ∷ fs) =
+      let e0 = sum_by-cons func_ops (lowered_function p f) (map (lowered_function p) fs) in
+      let e1 = few_operations f in
+      let e2 = functions_cost fs in
+      omega (arith, e0, e1, e2)
+
+  pub few_in_all : program_ops (lowered p) ≤ 10 * weight_functions p.functions
+  few_in_all = functions_cost p.functions
+
+  -- at most 40 for each node of the source
+  pub few_of_source : (nodes : ℕ) → KeepsWeights nodes p → program_ops (lowered p) ≤ 40 * nodes
+  few_of_source nodes h = let e1 = few_in_all in let e2 = h.light in omega (arith, e1, e2)
+
+  -- A source of at most 3,000 nodes has never more than 200,000.
+  pub small_source : (nodes : ℕ) → KeepsWeights nodes p → nodes ≤ 3000 → program_ops (lowered p) ≤ 200000
+  small_source nodes h few = let e1 = few_of_source nodes h in omega (arith, e1, few)

@@ -419,19 +419,25 @@ module _ (p : Program) where
       let e1 = many_ops n last is in
       omega (arith, e0, e1)
 
+  -- a function has an operation for each item, and the end of its last block
+  pub counted_items : (f : Function) → func_ops (lowered_function p f) ≡ suc (length (items_of p f))
+  counted_items f =
+      let is = items_of p f in
+      let e1 = many_ops (nowhere p) (Ret None) is in
+      let e2 = sum_by-cons block_ops (block_of (nowhere p) (Ret None) is) (rest_of (nowhere p) (Ret None) is) in
+      omega (arith, e1, e2)
+
   -- at most ten operations a node, ends of blocks among them
   pub few_operations : (f : Function) → func_ops (lowered_function p f) ≤ 10 * weight_function f
   few_operations f =
       let n = free_in p f in
-      let is = items_of p f in
       let first : Open = record { label = 0; count = 0 } in
       let lp : Loop = record { on_break = 0; on_continue = 0 } in
       let e1 = (items_cost (body_of p f) lp onward first).by in
       let e2 = all_stored_cost f.params f.slots n in
       let e3 = stms_cost f.body n in
-      let e4 = many_ops (nowhere p) (Ret None) is in
-      let e5 = sum_by-cons block_ops (block_of (nowhere p) (Ret None) is) (rest_of (nowhere p) (Ret None) is) in
-      omega (arith, e1, e2, e3, e4, e5)
+      let e4 = counted_items f in
+      omega (arith, e1, e2, e3, e4)
 
   functions_cost : (fs : List Function) → sum_by func_ops (map (lowered_function p) fs) ≤ 10 * weight_functions fs
   functions_cost [] = omega arith

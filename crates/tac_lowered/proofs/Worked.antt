@@ -1,5 +1,5 @@
 -- Small trees and their code.
-use Rattle.std.proofs.Common.{◌≡◌, pos, List, [], ◌∷◌, Some, None, codes, refl}
+use Rattle.std.proofs.Common.{◌≡◌, suc, ◌+◌, pos, List, [], ◌∷◌, Some, None, codes, refl}
 use Rattle.ib_base.specs.declared.integers.Width.TheVariants.{W4}
 use Rattle.ib_act.specs.declared.act.Size.TheVariants.{Four, Eight}
 use Rattle.ib_act.specs.declared.act.Act.TheVariants.{Const, Mov, Add, Mul, Less, ExtByte, FrameAddress, Bounds, Load, Store, PutByte}
@@ -10,15 +10,17 @@ use Rattle.c_typed.specs.declared.expr.Reach.TheVariants.{Inside}
 use Rattle.c_typed.specs.declared.operation.Rank.TheVariants as r
 use Rattle.c_typed.specs.declared.operation.Arithmetic.TheVariants as a
 use Rattle.c_typed.specs.declared.operation.Comparison.TheVariants as c
-use Rattle.c_typed.specs.declared.operation.Operation.TheVariants.{Integer, Compare}
+use Rattle.c_typed.specs.declared.operation.Operation.TheVariants.{Integer, Compare, Distance}
 use Rattle.c_typed.specs.declared.program.Home.TheVariants as h
-use Rattle.c_typed.specs.ValueTypes.{int}
-use Rattle.c_typed.specs.Tree.{Exp, Stm, constant, slot, binary, not, both, update_slot, update, set_slot, step_slot, element, load, address, put_byte, call, no_exp, an_exp, given, missing, block, empty, expression, if_then, while_loop, do_while, for_loop, break, continue, return, stms}
+use Rattle.c_typed.specs.ValueTypes.{int, long}
+use Rattle.c_typed.specs.Tree.{Exp, Stm, constant, slot, binary, not, both, update_slot, update, set_slot, step_slot, element, load, address, put_byte, call, no_exp, an_exp, given, missing, block, empty, expression, if_then, while_loop, do_while, for_loop, break, continue, return, local, stms, Function}
 use Rattle.c_typed.specs.Program.{Program}
 use Rattle.tac_core.specs.declared.code.End.TheVariants.{Jump, Branch, Call, Ret}
+use Rattle.tac_core.specs.Program.{func_ops}
 use Rattle.tac_lowered.specs.Items.{Item, Do, Close, onward, items, is_full}
 use Rattle.tac_lowered.specs.Statements.{low_stm}
 use Rattle.tac_lowered.specs.Lowered.{lowered_function}
+use Rattle.tac_lowered.specs.Slots.{declared}
 
 -- a program with one statement and one global
 none : Program
@@ -146,3 +148,22 @@ stored_first : lowered_function none (record {
 }
 unfolding none is_full
 stored_first = refl
+
+-- int d = x; declares a variable, d = x; does not
+two_declared : declared (block (stms (local 0 (an_exp (set_slot int 2 x) (an_exp (set_slot int 3 y) no_exp)) ∷ expression 0 (set_slot int 2 y) ∷ []))) ≡ 2
+two_declared = refl
+
+-- void f(long *p, long *q) { long d = p - q; } has one register more than parameters and operations
+difference : Function
+difference = record {
+  name = codes "f";
+  result = int;
+  params = record { ty = long; home = h.Slot 0 } ∷ record { ty = long; home = h.Slot 1 } ∷ [];
+  slots = 3;
+  frame = 0;
+  body = stms (local 0 (an_exp (set_slot long 2 (binary long (Distance 8) (slot long 0) (slot long 1))) no_exp) ∷ []);
+}
+
+most_registers : (lowered_function none difference).regs ≡ suc (2 + func_ops (lowered_function none difference))
+unfolding none is_full difference
+most_registers = refl

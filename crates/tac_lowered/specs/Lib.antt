@@ -4,4 +4,5 @@ pub mod Expressions
 pub mod Items
 pub mod Lowered
 pub mod Operators
+pub mod Slots
 pub mod Statements

@@ -5,6 +5,7 @@ use Rattle.c_typed.specs.Program.{Program, first_frame}
 use Rattle.c_typed.specs.Views.{functions_of}
 use Rattle.c_typed.specs.declared.program.Typed.{Typed}
 use Rattle.c_typed.specs.declared.program.Layout.{Layout}
+use Rattle.c_program.specs.Keeping.{Keeps}
 use Rattle.c_program.specs.Limits.{frame_limit, globals_limit}
 
 pub record Checked : Type 0 where
@@ -31,8 +32,9 @@ pub record IsLayout (layout : Layout) (p : Program) : Type 0 where
   pub frames : layout.frames.items ≡ map (λ f. f.frame) p.functions
   pub start : layout.first_frame ≡ first_frame p
 
--- Its layout is that of its program, and it is within the limits.
+-- Its layout is that of its program, which is within the limits and keeps what code that is made of it relies on.
 pub record IsSound (p : Checked) : Type 0 where
   pub laid : IsLayout p.layout (program p)
   pub bytes : length p.image ≤ globals_limit
   pub small : All (λ f. f.frame ≤ frame_limit) p.typed.functions.items
+  pub keeps : Keeps p.nodes (program p)

@@ -1,3 +1,4 @@
 pub mod Checked
+pub mod Keeping
 pub mod Limits
 pub mod Nodes

@@ -40,6 +40,7 @@ impl Program {
     ghost use Rattle.c_layout.specs.Layout.{image_size};
     ghost use Rattle.c_typed.specs.Views.{function_of};
     ghost use Rattle.c_program.specs.Checked.{IsLayout, program};
+    ghost use Rattle.c_program.specs.Keeping.{Keeps, KeepsWithin};
     ghost use Rattle.c_program.specs.Limits.{Refuses, is_large, limited, program_of, within};
 
     /// The program of what a source means, with the number of the nodes of its tree.
@@ -51,6 +52,7 @@ impl Program {
         places: Vec<Place>,
         nodes: u64,
     ) -> Result<Program, CheckErr>
+        requires keeps { KeepsWithin nodes (limited (map function_of functions.items) globals.now (map (λ text. text.now) texts.now) places.items) }
         ensures program { IfOk result (λ p. program p ≡ program_of (map function_of functions.items) globals.now (map (λ text. text.now) texts.now) places.items) }
         ensures limits { IfOk result (λ p. limited (map function_of functions.items) globals.now (map (λ text. text.now) texts.now) places.items ≡ within (program p)) }
         ensures nodes { IfOk result (λ p. p.nodes ≡ nodes) }
@@ -79,6 +81,7 @@ impl Program {
     ) -> Result<Program, AllocError>
         requires globals { image_size globals.now (map (λ text. text.now) texts.now) ≤ 524288 }
         requires frames { find is_large (map function_of functions.items) ≡ None }
+        requires keeps { Keeps nodes (program_of (map function_of functions.items) globals.now (map (λ text. text.now) texts.now) places.items) }
         ensures program { IfOk result (λ p. program p ≡ program_of (map function_of functions.items) globals.now (map (λ text. text.now) texts.now) places.items) }
         ensures nodes { IfOk result (λ p. p.nodes ≡ nodes) }
     {
@@ -104,6 +107,7 @@ impl Program {
     pub fn typed(&self) -> &Typed
         ensures value { result.now ≡ self.now.typed }
         ensures frames { All (λ f. f.frame ≤ 262144) result.now.functions.items }
+        ensures keeps { Keeps self.now.nodes (program self.now) }
     {
         &self.typed
     }

@@ -19,7 +19,7 @@ use Rattle.c_types_statements.specs.Keeping.{Seen, Types, Finds, ◌<?>◌, past
 use Rattle.c_types_statements.proofs.Typed.{makes, with_part, also_typed}
 use Rattle.c_types_statements.proofs.Behind.{by_statements}
 use Rattle.c_types.specs.Making.{and_param, and_params, param_at, body_in, past_body, function_with}
-use Rattle.c_types.specs.Units.{with_param, with_params, params_typed, body, a_function, function}
+use Rattle.c_types_units.specs.Units.{with_param, with_params, params_typed, body, a_function, function}
 
 -- ---- scopes
 

@@ -2,10 +2,13 @@
 use Rattle.std.proofs.Common.{◌≡◌, refl, ap, ap₂, sym, ◌∙◌, subst, ℕ, Bool, true, false, not, List, [], ◌∷◌, ◌++◌, Option, Some, None, is_some}
 use Rattle.std.proofs.lemmas.List.{append-nil}
 use Rattle.ib_meaning.proofs.Facts.{some_same}
+use Rattle.ib_meaning.specs.declared.place.Place.{Place}
 use Rattle.c_ast.specs.Trees as c
 use Rattle.c_scopes.specs.Scopes as s
 use Rattle.c_scopes.specs.Scopes.{outermost}
 use Rattle.c_typed.specs.Program.{Program}
+use Rattle.c_layout.specs.declared.data.GlobalData.{GlobalData}
+use Rattle.c_layout.specs.Layout.{Texts}
 use Rattle.c_types_functions.specs.Functions.{functions_known, lacks_main, with_body}
 use Rattle.c_types_operators.specs.declared.rule.Breach.{Breach}
 use Rattle.c_types_operators.specs.Rules.{Judged, Fine, Broken, breaches, first_from, first_breach}
@@ -16,12 +19,16 @@ use Rattle.c_types_operators.specs.Judging.{Noted, noted, kept}
 use Rattle.c_types_operators.proofs.JudgingLemmas.{first_from-join, first_from-some}
 use Rattle.c_program.specs.declared.error.CheckErr.{CheckErr}
 use Rattle.c_program.specs.declared.error.CheckErr.TheVariants.{NoMemory}
+use Rattle.c_kept.specs.WellFormed.{FormedUnit}
+use Rattle.c_program.specs.Keeping.{KeepsWithin}
 use Rattle.c_program.specs.Limits.{Limited, within, limited, program_of, Refuses}
+use Rattle.c_program.specs.Nodes.{nodes_unit}
 use Rattle.c_types_statements.specs.Keeping.{Seen, Types, Finds, is_empty}
 use Rattle.c_types_statements.specs.Statements.{At}
 use Rattle.c_types.specs.Making.{with_items}
-use Rattle.c_types.specs.Units.{Parts, judged, items, whole_breaches, file_start, past_items}
-use Rattle.c_types.specs.Typing.{verdict, verdict_of, keeps_rules, breaks_rule, IsTyped, IsBreach, Refused}
+use Rattle.c_types_units.specs.Units.{Parts, judged, items, whole_breaches, file_start, past_items}
+use Rattle.c_types_units.specs.Typing.{verdict, verdict_of, keeps_rules, breaks_rule, IsTyped, IsBreach, Refused}
+use Rattle.c_types_kept.proofs.Kept.{typed_within}
 use Rattle.c_types.specs.Views.{Tells}
 use Rattle.c_types.proofs.HeadLemmas.{seen_with}
 
@@ -120,6 +127,17 @@ pub verdict_is : {notes : Noted} (unit : List c.Top) (parts : Parts) → Tells u
 verdict_is {notes} unit parts h =
     ap₂ (λ texts places. keeps_rules (limited parts.functions parts.globals texts places)) h.texts h.places
     ∙ ap (λ j. verdict_of j (past_items unit file_start)) (sym (kept-fine (judged unit) parts h.means))
+
+pub kept_within : {notes : Noted} {nodes : ℕ} {globals : List GlobalData} {texts : Texts} {places : List Place} (unit : List c.Top) (parts : Parts) →
+    FormedUnit unit → Tells unit (Some parts) notes → nodes ≡ nodes_unit unit → globals ≡ parts.globals → texts ≡ notes.texts → places ≡ notes.places →
+    KeepsWithin nodes (limited parts.functions globals texts places)
+kept_within {notes} {nodes} {globals} {texts} {places} unit parts formed h counted gs ts ps =
+    let said : Limited = limited parts.functions globals texts places in
+    subst (λ (n : ℕ). KeepsWithin n said) (sym counted)
+    (typed_within unit said formed
+    (ap (λ (g : List GlobalData). keeps_rules (limited parts.functions g texts places)) gs
+    ∙ ap₂ (λ texts places. keeps_rules (limited parts.functions parts.globals texts places)) ts ps
+    ∙ verdict_is unit parts h))
 
 pub laid_out : {notes : Noted} {p : Program} (unit : List c.Top) (parts : Parts) → Tells unit (Some parts) notes →
     said_of parts notes ≡ within p → verdict unit ≡ keeps_rules (within p)

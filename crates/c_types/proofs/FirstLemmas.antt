@@ -13,8 +13,8 @@ use Rattle.c_types_operators.proofs.JudgingLemmas.{first_from-some}
 use Rattle.c_program.specs.declared.error.CheckErr.{CheckErr}
 use Rattle.c_program.specs.declared.error.CheckErr.TheVariants.{Rule, Globals, Frame, NoMemory}
 use Rattle.c_program.specs.Limits.{Limited, Refuses}
-use Rattle.c_types.specs.Units.{judged}
-use Rattle.c_types.specs.Typing.{IsBreach, IsAmong, IsFirst, NamesFirst}
+use Rattle.c_types_units.specs.Units.{judged}
+use Rattle.c_types_units.specs.Typing.{IsBreach, IsAmong, IsFirst, NamesFirst}
 use Rattle.c_types.specs.Views.{Tells}
 
 -- ---- an order of three numbers, the first of which decides first

@@ -23,7 +23,7 @@ use Rattle.c_types_statements.specs.Statements.{At, past_texts}
 use Rattle.c_types_statements.specs.Keeping.{Seen, Types, Finds, counted, ◌<?>◌}
 use Rattle.c_types_statements.proofs.Typed.{makes, with_part, also_typed, after, Leads, leads_all, leads_on, leads_end}
 use Rattle.c_types.specs.Making.{and_global, past_global, past_globals}
-use Rattle.c_types.specs.Units.{a_global, with_global, with_globals, global_texts, globals_texts, global, globals}
+use Rattle.c_types_units.specs.Units.{a_global, with_global, with_globals, global_texts, globals_texts, global, globals}
 
 -- the same answer, with nothing done to it
 pub same_option : {A : Type 0} (x : Option A) → x ≡ option_map (λ a. a) x

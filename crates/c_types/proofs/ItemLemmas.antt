@@ -15,7 +15,7 @@ use Rattle.c_types_functions.specs.Functions.{Head, head_breaches, is_good_proto
 use Rattle.c_types_statements.specs.Keeping.{Seen, Types, Finds, ◌<?>◌}
 use Rattle.c_types_statements.proofs.Typed.{makes, also_typed, Leads, leads_all, leads_on, leads_end}
 use Rattle.c_types.specs.Making.{with_items}
-use Rattle.c_types.specs.Units.{Parts, no_parts, one_function, only_globals, joined, with_item, past_item, past_items, prototype, item, items}
+use Rattle.c_types_units.specs.Units.{Parts, no_parts, one_function, only_globals, joined, with_item, past_item, past_items, prototype, item, items}
 
 abbrev pub parts_with : List t.Function → List GlobalData → Parts
 parts_with fs gs = record { functions = fs; globals = gs }

@@ -1,4 +1,2 @@
-pub mod Units
-pub mod Typing
 pub mod Making
 pub mod Views

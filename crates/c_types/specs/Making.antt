@@ -12,7 +12,7 @@ use Rattle.c_types_operators.specs.Scopes.{Scope, inner}
 use Rattle.c_types_functions.specs.Functions.{Head}
 use Rattle.c_types_statements.specs.Statements.{At, past_texts, home_at, statements, places_of, literals_in_all}
 use Rattle.c_types_statements.specs.Keeping.{Seen, counted}
-use Rattle.c_types.specs.Units.{global_texts, globals_texts, with_param, with_params, params_typed, with_item, past_item}
+use Rattle.c_types_units.specs.Units.{global_texts, globals_texts, with_param, with_params, params_typed, with_item, past_item}
 
 -- ---- globals
 

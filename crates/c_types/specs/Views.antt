@@ -7,7 +7,7 @@ use Rattle.c_types.specs.declared.items.Piece.{Piece}
 use Rattle.c_types.specs.declared.items.Piece.TheVariants as p
 use Rattle.c_types_operators.specs.Rules.{breaches, first_breach}
 use Rattle.c_types_operators.specs.Judging.{Noted, kept}
-use Rattle.c_types.specs.Units.{Parts, no_parts, one_function, only_globals, judged, file_start, past_items}
+use Rattle.c_types_units.specs.Units.{Parts, no_parts, one_function, only_globals, judged, file_start, past_items}
 
 abbrev pub piece_of : Piece → Parts
 piece_of p.Nothing = no_parts

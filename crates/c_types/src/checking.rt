@@ -7,13 +7,14 @@ ghost use Rattle.c_types_functions.specs.Functions.{all_declared, functions_know
 ghost use Rattle.c_types_operators.specs.Parts.{also};
 ghost use Rattle.c_types_operators.specs.Rules.{breaches, first_from};
 ghost use Rattle.c_types_operators.specs.ScopeViews.{functions_of};
+ghost use Rattle.c_kept.specs.WellFormed.{FormedUnit};
 ghost use Rattle.c_program.specs.Checked.{program};
 ghost use Rattle.c_program.specs.Limits.{within};
 ghost use Rattle.c_program.specs.Nodes.{nodes_unit};
 ghost use Rattle.c_types_statements.specs.Keeping.{Finds, Types};
 ghost use Rattle.c_types.specs.Making.{with_items};
-ghost use Rattle.c_types.specs.Typing.{IsBreach, IsTyped, NamesFirst, Refused, keeps_rules, verdict};
-ghost use Rattle.c_types.specs.Units.{items, judged, past_items, whole_breaches};
+ghost use Rattle.c_types_units.specs.Typing.{IsBreach, IsTyped, NamesFirst, Refused, keeps_rules, verdict};
+ghost use Rattle.c_types_units.specs.Units.{items, judged, past_items, whole_breaches};
 ghost use Rattle.c_types.specs.Views.{Tells, parts_of};
 
 use crate::items::{Made, items};
@@ -100,6 +101,7 @@ fn settle(
     made: Option<Made>,
     notes: Notes<'_>,
 ) -> Result<Program, CheckErr>
+    requires formed { FormedUnit (unit_of unit.now) }
     requires tells { Tells (unit_of unit.now) (option_map parts_of made) notes }
     ensures program { IfOk result (λ p. verdict (unit_of unit.now) ≡ keeps_rules (within (program p))) }
     ensures typed { IfOk result (λ p. IsTyped (unit_of unit.now) (program p)) }
@@ -124,6 +126,7 @@ fn check_with<'a>(
     no_main: bool,
     unit: &'a Unit,
 ) -> Result<Program, CheckErr>
+    requires formed { FormedUnit (unit_of unit.now) }
     requires known { functions_of functions.now ≡ functions_known (unit_of unit.now) }
     requires bodied { functions_of bodied.now ≡ with_body (unit_of unit.now) }
     requires main { no_main ≡ lacks_main (unit_of unit.now) }
@@ -143,6 +146,9 @@ fn check_with<'a>(
 /// give the bytes that pass a limit.
 #[tactic(auto, using(crate::proofs::CheckLemmas::no_memory, crate::proofs::FirstLemmas::names_no_memory))]
 pub fn check(alloc: Global, unit: &Unit) -> Result<Program, CheckErr>
+    // The tree is one that a source spells.
+    requires formed { FormedUnit (unit_of unit.now) }
+
     // What the tree means breaks no rule and is within the limits, and this is its program.
     ensures program { IfOk result (λ p. verdict (unit_of unit.now) ≡ keeps_rules (within (program p))) }
 

@@ -9,7 +9,7 @@ ghost use Rattle.c_types_functions.specs.Functions.{head_of};
 ghost use Rattle.c_types_statements.specs.Keeping.{Types, rows_of, ◌<?>◌};
 ghost use Rattle.c_types_statements.specs.Statements as statements;
 ghost use Rattle.c_types.specs.Making.{and_param, and_params, body_in, function_with, param_at, past_body};
-ghost use Rattle.c_types.specs.Units as units;
+ghost use Rattle.c_types_units.specs.Units as units;
 
 use crate::heads;
 use c_ast::{FunctionHead, Param, ParamName};

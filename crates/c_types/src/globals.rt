@@ -7,7 +7,7 @@ ghost use Rattle.c_types_statements.specs.Keeping.{Types, counted, ◌<?>◌};
 ghost use Rattle.c_types_statements.specs.Statements.{past_texts};
 ghost use Rattle.c_types_initial.specs.Constants.{shape_data, laid_out};
 ghost use Rattle.c_types.specs.Making.{and_global, past_global, past_globals};
-ghost use Rattle.c_types.specs.Units.{a_global, with_global, with_globals, global, globals};
+ghost use Rattle.c_types_units.specs.Units.{a_global, with_global, with_globals, global, globals};
 
 use c_ast::{Declarator, Init};
 use c_layout::{Datum, GlobalData, Shape};

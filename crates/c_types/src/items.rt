@@ -9,7 +9,7 @@ ghost use Rattle.c_types_functions.specs.Functions.{head_of};
 ghost use Rattle.c_types_statements.specs.Keeping.{Types, ◌<?>◌};
 ghost use Rattle.c_types.specs.Making.{with_items};
 ghost use Rattle.c_types.specs.Views.{parts_of, piece_of};
-ghost use Rattle.c_types.specs.Units.{no_parts, joined, one_function, only_globals, with_item, past_item, past_items, prototype, item, items};
+ghost use Rattle.c_types_units.specs.Units.{no_parts, joined, one_function, only_globals, with_item, past_item, past_items, prototype, item, items};
 
 use crate::functions::function;
 use crate::globals::globals;

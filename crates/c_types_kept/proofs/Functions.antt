@@ -22,7 +22,7 @@ use Rattle.c_types_operators.specs.Scopes.{Scope, Signature, inner}
 use Rattle.c_types_declarators.specs.Declarations.{is_on_void, is_bad_param, has_bad_param_length, param_breaches}
 use Rattle.c_types_statements.specs.Statements.{At, home_at, lives, literals_in_all}
 use Rattle.c_types_functions.specs.Functions.{Head, signature_of, same_types, same_signature, is_main, has_bad_signature, has_bad_result, has_unnamed, repeats, params_breaches, head_breaches}
-use Rattle.c_types.specs.Units.{with_param, with_params, params_typed, body, a_function, function}
+use Rattle.c_types_units.specs.Units.{with_param, with_params, params_typed, body, a_function, function}
 use Rattle.c_kept.specs.Kept.{KeepsStms, KeepsFunction}
 use Rattle.c_kept.specs.WellFormed.{FormedStms}
 use Rattle.c_types_kept.proofs.Judgements.{differ, Gives, beside, of_one, first_none, second_none, not_so}

@@ -18,7 +18,7 @@ use Rattle.c_types_homes.specs.Addressed.{param_shape}
 use Rattle.c_types_homes.specs.Declarators.{param_type}
 use Rattle.c_types_homes.specs.Homes.{home_of, behind, is_in_frame, homes_from, given_behind}
 use Rattle.c_types_statements.specs.Statements.{home_at}
-use Rattle.c_types.specs.Units.{params_typed}
+use Rattle.c_types_units.specs.Units.{params_typed}
 use Rattle.c_kept.specs.Kept.{HasHome, HaveHomes, slots_of}
 use Rattle.c_types_kept.proofs.Judgements.{by_cases}
 use Rattle.c_types_kept.proofs.Types.{IsFirm, firm_value, some_size}

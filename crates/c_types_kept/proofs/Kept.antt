@@ -20,9 +20,10 @@ use Rattle.c_types_operators.specs.Rules.{Judged, Fine, Broken}
 use Rattle.c_types_operators.specs.Parts.{broken_if}
 use Rattle.c_types_operators.specs.Scopes.{Scope}
 use Rattle.c_types_functions.specs.Functions.{Head, bodies, is_main, lacks_main, with_body, functions_known, redeclared_after, all_declared}
-use Rattle.c_types.specs.Units.{Parts, items, past_items, file_start, whole_breaches, judged}
-use Rattle.c_types.specs.Typing.{program_from, verdict, verdict_of, keeps_rules}
-use Rattle.c_program.specs.Limits.{globals_limit, is_large, framed, limited, within, large_globals, program_of}
+use Rattle.c_types_units.specs.Units.{Parts, items, past_items, file_start, whole_breaches, judged}
+use Rattle.c_types_units.specs.Typing.{program_from, verdict, verdict_of, keeps_rules}
+use Rattle.c_program.specs.Limits.{globals_limit, is_large, framed, Limited, limited, within, large_globals, large_frame, program_of}
+use Rattle.c_program.specs.Keeping.{Keeps, KeepsWithin}
 use Rattle.c_formed.proofs.Tokens.{AreBytes}
 use Rattle.c_formed.proofs.Trees.{source_formed}
 use Rattle.c_kept.specs.Kept.{KeepsFunction, KeepsProgram}
@@ -196,8 +197,12 @@ typed_weighs unit p e =
     let parts = light.by h.parts h.typed in
     subst (KeepsWeights (nodes_unit unit)) (sym h.whole) (record { light = parts.0; slots = all_slots h.parts.functions parts.1 })
 
+-- What is within the limits keeps all of this.
+pub typed_within : (unit : List c.Top) (said : Limited) → FormedUnit unit → keeps_rules said ≡ verdict unit → KeepsWithin (nodes_unit unit) said
+typed_within unit (within p) formed e = record { rules = typed_keeps unit p formed (sym e); numbers = typed_numbers unit p formed (sym e); weights = typed_weighs unit p (sym e) }
+typed_within unit (large_globals bytes) formed e = tt
+typed_within unit (large_frame bytes) formed e = tt
+
 -- Whatever bytes are a source, what is typed of it within the limits keeps all of this.
-pub source_keeps : (source : List ℕ) (tokens : List Token) (unit : List c.Top) (p : Program) → AreBytes source → AreTokens source tokens → IsUnit tokens unit → verdict unit ≡ keeps_rules (within p) → KeepsProgram p × KeepsNumbers p × KeepsWeights (nodes_unit unit) p
-source_keeps source tokens unit p bytes are is e =
-    let formed = source_formed source tokens unit bytes are is in
-    (typed_keeps unit p formed e, typed_numbers unit p formed e, typed_weighs unit p e)
+pub source_keeps : (source : List ℕ) (tokens : List Token) (unit : List c.Top) (p : Program) → AreBytes source → AreTokens source tokens → IsUnit tokens unit → verdict unit ≡ keeps_rules (within p) → Keeps (nodes_unit unit) p
+source_keeps source tokens unit p bytes are is e = typed_within unit (within p) (source_formed source tokens unit bytes are is) (sym e)

@@ -20,7 +20,7 @@ use Rattle.c_types_statements.specs.Statements.{At, number, numbered, past, past
 use Rattle.c_types_homes.specs.Homes.{function_homes}
 use Rattle.c_types_homes.specs.Declarators.{declared_name, declared_place}
 use Rattle.c_types_functions.specs.Functions.{Head, head_of, head_breaches, bodies, has_unnamed, is_good_prototype, a_global, a_prototype, a_body, Declared, declared_as, clashes, redeclares_built_in, redeclared_after, all_declared}
-use Rattle.c_types.specs.Units.{with_params, body, a_function, function, no_parts, one_function, only_globals, joined, with_item, past_item, past_items, prototype, globals, item, items}
+use Rattle.c_types_units.specs.Units.{with_params, body, a_function, function, no_parts, one_function, only_globals, joined, with_item, past_item, past_items, prototype, globals, item, items}
 use Rattle.c_kept.specs.Numbered.{NumbersStm, NumbersStms}
 use Rattle.c_kept.specs.WellFormed.{IsName, FormedUnit}
 use Rattle.c_types_kept.proofs.Judgements.{differ, Gives, fine, beside, of_one, of_two, of_three, of_four, first_none, second_none, not_so}

@@ -21,7 +21,7 @@ use Rattle.c_types_declarators.specs.Declarations.{declarator_breaches}
 use Rattle.c_types_statements.specs.Statements.{At, literals_in_all}
 use Rattle.c_types_initial.specs.Constants.{shape_data}
 use Rattle.c_types_functions.specs.Functions.{Head, head_of, head_breaches, bodies, prototypes, is_good_prototype}
-use Rattle.c_types.specs.Units.{with_global, with_globals, global_texts, globals_texts, a_global, global, globals, function, Parts, no_parts, one_function, only_globals, joined, with_item, past_item, past_items, prototype, item, items}
+use Rattle.c_types_units.specs.Units.{with_global, with_globals, global_texts, globals_texts, a_global, global, globals, function, Parts, no_parts, one_function, only_globals, joined, with_item, past_item, past_items, prototype, item, items}
 use Rattle.c_kept.specs.Kept.{KeepsFunction}
 use Rattle.c_kept.specs.WellFormed.{FormedDecls, FormedUnit}
 use Rattle.c_types_kept.proofs.Judgements.{Gives, fine, beside, of_one, of_two, of_two_then, first_none, not_so}

@@ -27,7 +27,7 @@ use Rattle.c_types_operators.specs.Scopes.{Scope, inner}
 use Rattle.c_types_expressions.specs.Expressions.{stored_value, tested_value, effect}
 use Rattle.c_types_statements.specs.Statements.{At, number, numbered, past, past_test, past_head, literals_maybe, literals_init, literals_start, literals_in, stored_at, first_value, no_first_value, given_stored, stored_first, given_before, as_list, redeclared_in, home_at, test_part, effect_part, with_local, with_start, with_names, local, locals, start, returned, if_of, if_else_of, while_of, do_of, for_of, before, statement, statements}
 use Rattle.c_types_functions.specs.Functions.{Head, head_of, head_breaches, has_unnamed, is_good_prototype}
-use Rattle.c_types.specs.Units.{with_params, body, a_function, function, Parts, no_parts, one_function, only_globals, joined, with_item, past_item, globals, item, items}
+use Rattle.c_types_units.specs.Units.{with_params, body, a_function, function, Parts, no_parts, one_function, only_globals, joined, with_item, past_item, globals, item, items}
 use Rattle.c_kept.specs.Weights.{weight, weights, weight_part, weight_stm, weight_stms, weight_function, weight_functions}
 use Rattle.c_types_kept.proofs.Judgements.{by_test, by_cases, Gives, fine, broken, beside, of_one, of_two, of_three, of_four}
 use Rattle.c_types_kept.proofs.Homes.{slot_types, slots_counted}

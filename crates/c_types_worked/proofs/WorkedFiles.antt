@@ -13,7 +13,7 @@ use Rattle.c_typed.specs.Tree as t
 use Rattle.c_typed.specs.declared.rule.Rule.{Rule}
 use Rattle.c_typed.specs.declared.rule.Rule.TheVariants.{UnknownName, Redeclared, NoMain, WrongSignature, BadType, NotAPlace, WrongOperands, NotAssignable, NotAFunction, ArgumentCount, OutsideALoop, ReturnValue, WrongInitialiser}
 use Rattle.c_program.specs.Limits.{within, large_globals, large_frame}
-use Rattle.c_types.specs.Typing.{Verdict, keeps_rules, breaks_rule, verdict}
+use Rattle.c_types_units.specs.Typing.{Verdict, keeps_rules, breaks_rule, verdict}
 use Rattle.c_types_worked.proofs.Small.{at, int, char, long, void, to_int, to_char, to_void, name, number, text, call, unary, binary, set, scalar, array, doing, return, local, param, unnamed, prototype, function}
 
 abbrev return_zero : ℕ → c.Stm

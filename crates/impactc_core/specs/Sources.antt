@@ -12,7 +12,7 @@ use Rattle.c_lex.specs.Lexed.{end_place}
 use Rattle.c_parse_machine.specs.Told.{IsWrongAt}
 use Rattle.c_typed.specs.Program.{Program}
 use Rattle.c_program.specs.Limits.{within, large_globals, large_frame}
-use Rattle.c_types.specs.Typing.{IsTyped, Verdict, verdict, keeps_rules, breaks_rule}
+use Rattle.c_types_units.specs.Typing.{IsTyped, Verdict, verdict, keeps_rules, breaks_rule}
 use Rattle.impactc_core.specs.declared.core_err.Limit.{Limit}
 use Rattle.impactc_core.specs.declared.core_err.Limit.TheVariants.{Source as SourceBytes, Nesting, Globals, Frame}
 use Rattle.impactc_core.specs.declared.core_err.SourceFault.{SourceFault}

@@ -2,7 +2,7 @@ use Rattle.c_ast.specs.TreeViews.{unit_of}
 use Rattle.c_types_operators.specs.ScopeViews.{functions_of}
 use Rattle.c_types_statements.proofs.Typed.{also_typed, kept_where}
 use Rattle.c_types.specs.Making.{with_items}
-use Rattle.c_types.specs.Units.{items, past_items}
+use Rattle.c_types_units.specs.Units.{items, past_items}
 use Rattle.c_types.specs.Views.{parts_of}
 use Rattle.c_types.proofs.checking.judge.Goals as goal
 

@@ -1,7 +1,7 @@
 use Rattle.std.proofs.Common.{◌+◌, ◌++◌, map, drop, length, ap}
 use Rattle.c_ast.specs.TreeViews.{param_of}
 use Rattle.c_types_statements.proofs.Left.{next_left, none_left}
-use Rattle.c_types.specs.Units.{params_typed}
+use Rattle.c_types_units.specs.Units.{params_typed}
 use Rattle.c_types.proofs.BodyLemmas.{next_typed, no_more_typed}
 use Rattle.c_types.proofs.functions.typed_params.Goals as goal
 

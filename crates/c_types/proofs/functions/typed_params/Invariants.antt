@@ -1,6 +1,6 @@
 use Rattle.std.proofs.Common.{◌≡◌, ◌++◌, map, drop, length}
 use Rattle.c_ast.specs.TreeViews.{param_of}
-use Rattle.c_types.specs.Units.{params_typed}
+use Rattle.c_types_units.specs.Units.{params_typed}
 use Rattle.c_types.proofs.functions.typed_params.Given as goal
 
 abbrev pub invariant-loop-param : goal.invariant-loop-param

@@ -4,7 +4,7 @@ use Rattle.c_ast.specs.TreeViews.{type_of, param_of, stmt_of, decl_of}
 use Rattle.c_types_functions.specs.Functions.{head_of}
 use Rattle.c_types_statements.proofs.Typed.{makes, with_part, typed_as}
 use Rattle.c_types.specs.Making.{past_body, past_globals}
-use Rattle.c_types.specs.Units.{one_function, only_globals, function, globals, with_globals}
+use Rattle.c_types_units.specs.Units.{one_function, only_globals, function, globals, with_globals}
 use Rattle.c_types.proofs.items.item.Goals as goal
 
 pub returns-in_ok-made-in-Function : goal.returns-in_ok-made-in-Function

@@ -8,7 +8,7 @@ use Rattle.c_program.specs.declared.error.CheckErr.{CheckErr}
 use Rattle.c_program.specs.declared.error.CheckErr.TheVariants.{Rule, Globals, Frame, NoMemory}
 use Rattle.c_program.specs.Limits.{program_of, Limited, limited, Refuses}
 use Rattle.c_types_statements.specs.Statements.{At}
-use Rattle.c_types.specs.Units.{Parts, judged, file_start, past_items}
+use Rattle.c_types_units.specs.Units.{Parts, judged, file_start, past_items}
 
 -- the program of a source that breaks no rule
 abbrev pub program_from : Parts → At → Program

@@ -1,11 +1,14 @@
 -- A source's tokens, unit and program, and why it has none.
-use Rattle.std.proofs.Common.{◌≡◌, ◌≤◌, ℕ, List, length, arith, None, refl, sym, ap, ◌∙◌, subst}
+use Rattle.std.proofs.Common.{◌≡◌, ◌≤◌, ℕ, suc, List, [], ◌∷◌, length, get_or, Fits, w8, arith, None, refl, sym, ap, ◌∙◌, subst}
 use Rattle.ib_meaning.specs.declared.place.Place.{Place}
 use Rattle.c_ast.specs.declared.token.Token.{Token}
 use Rattle.c_ast.specs.Cut.{AreTokens, whole, stopped}
 use Rattle.c_ast.specs.Grammar.{IsUnit}
 use Rattle.c_ast.specs.Nesting.{too_deep}
 use Rattle.c_ast.specs.Trees.{Top}
+use Rattle.c_formed.proofs.Tokens.{AreBytes}
+use Rattle.c_formed.proofs.Trees.{source_formed}
+use Rattle.c_kept.specs.WellFormed.{FormedUnit}
 use Rattle.c_lex.proofs.Unique.{unique}
 use Rattle.c_lex.specs.declared.error.LexErr.{LexErr}
 use Rattle.c_lex.specs.declared.error.LexErr.TheVariants.{BadByte, OpenComment, BadLiteral, NoMemory as OutOfMemory}
@@ -19,7 +22,7 @@ use Rattle.c_program.specs.declared.error.CheckErr.{CheckErr}
 use Rattle.c_program.specs.declared.error.CheckErr.TheVariants.{Rule as Broken, Globals as LargeGlobals, Frame as LargeFrame, NoMemory as NoSpace}
 use Rattle.c_program.specs.Limits.{within, large_globals, large_frame}
 use Rattle.c_typed.specs.Program.{Program}
-use Rattle.c_types.specs.Typing.{IsTyped, Refused, Verdict, verdict, keeps_rules, breaks_rule}
+use Rattle.c_types_units.specs.Typing.{IsTyped, Refused, Verdict, verdict, keeps_rules, breaks_rule}
 use Rattle.c_parse_machine.proofs.Answered.{one_tree}
 use Rattle.impactc_core.specs.declared.core_err.Limit.{Limit}
 use Rattle.impactc_core.specs.declared.core_err.Limit.TheVariants.{Source as SourceBytes, Nesting, Globals, Frame}
@@ -35,6 +38,14 @@ has_unit content tokens unit cut kept is_unit = record { has = record { cut = cu
 
 pub some_tokens : (content : List ℕ) (tokens : List Token) (unit : List Top) → HasUnit content tokens unit → (ts : List Token) × HasUnit content ts unit
 some_tokens content tokens unit has = (tokens, has)
+
+are_bytes : (content : List ℕ) → ((i : ℕ) → Fits w8 (get_or content i 0)) → AreBytes content
+are_bytes [] each = tt
+are_bytes (b ∷ bs) each = let first = each 0 in (omega (arith, first), are_bytes bs (λ i. each (suc i)))
+
+-- its unit is one that a source spells
+pub is_formed : (content : List ℕ) (unit : List Top) → ((i : ℕ) → Fits w8 (get_or content i 0)) → (tokens : List Token) × HasUnit content tokens unit → FormedUnit unit
+is_formed content unit each has = source_formed content has.0 unit (are_bytes content each) has.1.has.cut has.1.is_unit
 
 pub has_program : (content : List ℕ) (unit : List Top) (program : Program) → (tokens : List Token) × HasUnit content tokens unit → verdict unit ≡ keeps_rules (within program) → IsTyped unit program → HasProgram content program
 has_program content unit program has small typed = record { tokens = has.0; unit = unit; has = has.1; typed = typed; small = small }

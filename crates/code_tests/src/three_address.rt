@@ -1,4 +1,5 @@
 use ib_base::{Place, Text, Width};
+use ib_bits::BitSet;
 use smallvec::SmallVec;
 use sqlite_items::Items;
 use std::alloc::{AllocError, Global};
@@ -450,7 +451,10 @@ fn told(alloc: Global) -> Result<([bool; 2], [bool; 4]), AllocError> {
     let chain = Chain::keep(Items::from_slice(alloc, &[0, 2])?);
     let chains = Items::from_vec(vec![in alloc; chain]?);
     let traces = Traces::keep(Items::from_vec(vec![in alloc; chains]?));
-    let labels = Items::from_vec(vec![in alloc; Items::from_slice(alloc, &[3, 5])?]?);
+    let mut set = BitSet::new(alloc, 1)?;
+    set.insert(3);
+    set.insert(5);
+    let labels = Items::from_vec(vec![in alloc; set]?);
     let live = Live::keep(Items::from_vec(vec![in alloc; labels]?));
     Ok((
         [traces.chains(0).is_some(), traces.chains(1).is_some()],

@@ -1,19 +1,11 @@
-ghost use Rattle.std.specs.Prelude.{◌≡◌, ◌↔◌, IsTrue, slice_get};
-ghost use Rattle.std.specs.List.{Contains};
-
+use ib_bits::BitSet;
 use sqlite_items::Items;
 use std::marker::Model;
 
-fn holds(registers: &[u32], reg: u32) -> bool
-    ensures { IsTrue result ↔ Contains registers.now reg }
-{
-    registers.contains(&reg)
-}
-
-/// The registers that are live at the start of each block.
+/// The registers that are live at the start of each block: a set for each label of each function.
 #[derive(Drop)]
 pub struct Live {
-    funcs: Items<Items<Items<u32>>>,
+    funcs: Items<Items<BitSet>>,
 }
 
 impl Model for Live {
@@ -28,7 +20,7 @@ impl Live {
     ghost use Rattle.std.specs.Prelude.{◌≡◌, ◌↔◌, IsTrue};
     ghost use Rattle.tac_core.specs.Live.{IsAt};
 
-    pub fn keep(funcs: Items<Items<Items<u32>>>) -> Live
+    pub fn keep(funcs: Items<Items<BitSet>>) -> Live
         ensures { result ≡ funcs }
     {
         Live { funcs }
@@ -42,7 +34,7 @@ impl Live {
             None => false,
             Some(labels) => match sqlite_items::at(labels.as_slice(), label as usize) {
                 None => false,
-                Some(registers) => holds(registers.as_slice(), reg),
+                Some(set) => set.contains(reg),
             },
         }
     }

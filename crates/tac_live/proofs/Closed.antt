@@ -1,8 +1,7 @@
 -- Rounds: what does not wait is closed, and where nothing waits the sets are the live ones.
-use Rattle.std.proofs.Common.{◌≡◌, ◌≢◌, ◌↔◌, ◌⊎◌, ⊎_elim, inl, inr, ℕ, zero, suc, ◌+◌, ◌*◌, ◌<◌, ◌≤◌, List, [], ◌∷◌, ◌++◌, Option, Some, None, length, get_or, drop, min, refl, sym, ap, subst, ◌∙◌, arith, Bool, true, false}
+use Rattle.std.proofs.Common.{◌≡◌, ◌↔◌, ◌⊎◌, ⊎_elim, inl, inr, ℕ, zero, suc, ◌+◌, ◌*◌, ◌<◌, ◌≤◌, List, [], ◌∷◌, ◌++◌, Option, Some, None, length, get_or, drop, min, refl, sym, ap, subst, ◌∙◌, arith, Bool, true, false}
 use Rattle.std.specs.Prelude.{slice_get}
 use Rattle.std.specs.List.{All, Contains}
-use Rattle.std.specs.List.{sum_by}
 use Rattle.std.proofs.Math.ListN.{set, length-set}
 use Rattle.std.proofs.lemmas.Bool.{cases_eq, cases_lt}
 use Rattle.std.proofs.lemmas.Grind.{get_or-set_at}
@@ -20,7 +19,7 @@ use Rattle.tac_core.specs.declared.code.Block.{Block}
 use Rattle.tac_core.specs.declared.code.TacFunc.{TacFunc}
 use Rattle.tac_core.specs.Counts.{IsTargetOf}
 use Rattle.tac_core.specs.Live.{IsLive, UsedInside, UsedAtEnd, UsedBehind}
-use Rattle.tac_live.specs.Before.{LiveBefore, LiveBehind, At, row, EndReadsBelow, BlockReadsBelow, ReadsBelow}
+use Rattle.tac_live.specs.Before.{LiveBefore, LiveBehind, At, row, EndReadsBelow}
 use Rattle.tac_live.specs.Rounds.{Even, IsClosed, AreSound, WaitsOrClosed, Settles, AllReadBelow, total_room}
 use Rattle.tac_live.proofs.Steps.{before_map, no_row}
 

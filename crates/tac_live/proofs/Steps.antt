@@ -1,5 +1,5 @@
 -- The sets of one block, step by step.
-use Rattle.std.proofs.Common.{◌≡◌, ◌≢◌, ◌↔◌, ◌⊎◌, ⊎_elim, inl, inr, ℕ, zero, suc, ◌+◌, ◌*◌, ◌/◌, ◌<◌, ◌≤◌, List, [], ◌∷◌, ◌++◌, Option, Some, None, length, get_or, take, drop, refl, sym, ap, ap₂, subst, ◌∙◌, arith}
+use Rattle.std.proofs.Common.{◌≡◌, ◌≢◌, ◌↔◌, ◌⊎◌, ⊎_elim, inl, inr, ℕ, zero, suc, ◌+◌, ◌<◌, ◌≤◌, List, [], ◌∷◌, ◌++◌, Some, length, get_or, take, drop, refl, sym, ap, ap₂, subst, ◌∙◌, arith}
 use Rattle.std.proofs.lemmas.List.{get_or_past, drop_all, drop_more}
 use Rattle.std.proofs.lemmas.List.Elements.{All-head, All-tail, All-cons, All-nil}
 use Rattle.std.proofs.Math.Seq.{take-append_seam}
@@ -7,9 +7,8 @@ use Rattle.ib_act.specs.Acts.{target}
 use Rattle.ib_bits.specs.Bits.{Has, IsEmpty}
 use Rattle.ib_bits.proofs.Words.{has_past}
 use Rattle.tac_core.specs.declared.code.TacOp.{TacOp}
-use Rattle.tac_core.specs.declared.code.End.{End}
 use Rattle.tac_core.specs.declared.code.Block.{Block}
-use Rattle.tac_core.specs.Live.{Reads, UsedIn, AtFirst, Later, Passes}
+use Rattle.tac_core.specs.Live.{Reads, UsedIn, AtFirst, Later}
 use Rattle.tac_live.specs.Before.{BeforeOps, LiveBefore, LiveBehind, At, row}
 
 -- no set stands past the end

@@ -1,5 +1,5 @@
 -- What is live before a block, from what is live behind it.
-use Rattle.std.specs.Prelude.{◌⊎◌, ℕ, ◌<◌, List, slice_index_or, [], Option}
+use Rattle.std.specs.Prelude.{◌⊎◌, ℕ, ◌<◌, List, slice_index_or, []}
 use Rattle.std.specs.List.{All}
 use Rattle.ib_act.specs.Acts.{first_source, second_source}
 use Rattle.ib_bits.specs.Bits.{Has}

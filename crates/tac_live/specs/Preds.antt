@@ -2,7 +2,6 @@
 use Rattle.std.specs.Prelude.{◌≡◌, ℕ, ◌<◌, List, Some, slice_get, length}
 use Rattle.std.specs.List.{Contains}
 use Rattle.tac_core.specs.declared.code.Block.{Block}
-use Rattle.tac_core.specs.declared.code.TacFunc.{TacFunc}
 use Rattle.tac_core.specs.Counts.{IsTargetOf}
 use Rattle.tac_live.specs.Before.{row}
 

@@ -4,8 +4,10 @@
 mod before;
 mod behind;
 mod preds;
+mod program;
 mod rounds;
 mod sets;
 
 pub use before::live_before;
+pub use program::live_in;
 pub use rounds::live_rows;

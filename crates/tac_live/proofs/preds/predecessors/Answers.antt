@@ -1,8 +1,8 @@
-use Rattle.std.proofs.Common.{◌≡◌, ◌+◌, ◌<◌, length, arith, sym, subst, ap, ◌∙◌, Some, rules}
+use Rattle.std.proofs.Common.{◌≡◌, ◌+◌, length, sym, subst, Some, rules}
 use Rattle.std.specs.Prelude.{slice_get}
 use Rattle.std.proofs.lemmas.Option.{slice_get_read}
 use Rattle.tac_live.specs.Preds.{ArePreds}
-use Rattle.tac_live.proofs.Closed.{preds_more, preds_none}
+use Rattle.tac_live.proofs.Closed.{preds_more}
 use Rattle.tac_live.proofs.Steps.{whole}
 use Rattle.tac_live.proofs.preds.predecessors.Goals as goal
 

@@ -1,4 +1,4 @@
-use Rattle.std.proofs.Common.{◌≡◌, ◌<◌, ◌≤◌, ◌*◌, ◌+◌, ◌/◌, ◌∙◌, ℕ, List, [], length, arith, sym, subst, ap, rules, ◌⊎◌, min, true, false}
+use Rattle.std.proofs.Common.{◌≡◌, ◌<◌, ◌*◌, ◌+◌, ◌∙◌, [], length, arith, sym, subst, ap, rules, ◌⊎◌, min, true, false}
 use Rattle.std.specs.List.{All}
 use Rattle.ib_bits.specs.Bits.{IsEmpty}
 use Rattle.tac_live.specs.Rounds.{AreSound, WaitsOrClosed, AllReadBelow, total_room}

@@ -1,4 +1,4 @@
-use Rattle.std.proofs.Common.{◌≡◌, ◌+◌, ◌*◌, ℕ, length, min}
+use Rattle.std.proofs.Common.{◌+◌, ◌*◌, ℕ, length, min}
 use Rattle.tac_live.specs.Preds.{ArePreds}
 use Rattle.tac_live.specs.Rounds.{AreSound, WaitsOrClosed, AllReadBelow, total_room}
 use Rattle.tac_live.proofs.rounds.live_rows.Given as goal

@@ -1,4 +1,4 @@
-use Rattle.std.proofs.Common.{◌≡◌, ◌<◌, ◌∙◌, length, get_or, arith, sym, subst, ap}
+use Rattle.std.proofs.Common.{◌<◌, ◌∙◌, length, get_or, arith, subst}
 use Rattle.std.proofs.lemmas.List.{drop_more}
 use Rattle.tac_live.specs.Rounds.{AreSound}
 use Rattle.tac_live.proofs.Closed.{waits_more, less_more}

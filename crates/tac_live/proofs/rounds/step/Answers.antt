@@ -1,6 +1,5 @@
-use Rattle.std.proofs.Common.{◌≡◌, ◌<◌, ◌∙◌, ◌++◌, Some, length, arith, sym, subst, rules}
+use Rattle.std.proofs.Common.{◌≡◌, ◌<◌, ◌∙◌, Some, length, sym, subst, rules}
 use Rattle.std.specs.Prelude.{slice_get}
-use Rattle.tac_live.specs.Before.{row}
 use Rattle.tac_live.specs.Rounds.{WaitsOrClosed}
 use Rattle.tac_live.proofs.Closed.{sound_after, waits_after, is_there}
 use Rattle.tac_live.proofs.rounds.step.Goals as goal

@@ -1,5 +1,5 @@
 -- Of mutually best edges, a block has at most one out and one in.
-use Rattle.std.proofs.Common.{◌≡◌, ◌≢◌, ◌+◌, ◌*◌, ◌<◌, ◌≤◌, ℕ, zero, suc, List, [], ◌∷◌, Bool, true, false, refl, sym, ap, ◌∙◌, subst, ⊎_elim, arith, if◌then◌else◌, ◌&&◌}
+use Rattle.std.proofs.Common.{◌≡◌, ◌≢◌, ◌+◌, ◌*◌, ◌<◌, ◌≤◌, ℕ, List, [], ◌∷◌, Bool, true, false, refl, sym, ◌∙◌, subst, ⊎_elim, arith, if◌then◌else◌, ◌&&◌}
 use Rattle.std.specs.Prelude.{◌==◌}
 use Rattle.std.specs.List.{sum_by}
 use Rattle.std.proofs.lemmas.Bool.Decides.{eqb_tells}
@@ -7,11 +7,11 @@ use Rattle.std.proofs.lemmas.List.Sums.{sum_by-cons}
 use Rattle.tac_core.specs.declared.code.TacFunc.{TacFunc}
 use Rattle.tac_core.specs.declared.edges.Edge.{Edge}
 use Rattle.tac_core.specs.declared.counts.FuncCounts.{FuncCounts}
-use Rattle.tac_core.specs.Counts.{edge_count, is_edge}
-use Rattle.tac_core.specs.Weights.{count_from, count_to, entries_at, in_weight, out_weight}
+use Rattle.tac_core.specs.Counts.{edge_count}
+use Rattle.tac_core.specs.Weights.{count_from, count_to, in_weight, out_weight}
 use Rattle.trace_pick.specs.Best.{IsMutuallyBest}
 
-same_number : (m n : ℕ) → (m == n) ≡ true → m ≡ n
+pub same_number : (m n : ℕ) → (m == n) ≡ true → m ≡ n
 same_number m n h = ⊎_elim (λ t. t.1) (λ f. let both : true ≡ false = sym h ∙ f.0 in cc) (eqb_tells m n)
 
 -- one edge more, from a to b and to d, where k is its count and p, q, s what the others give

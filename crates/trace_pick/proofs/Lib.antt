@@ -1,2 +1,5 @@
 pub mod Alone
+pub mod Chained
+pub mod Cycles
+pub mod Pieces
 pub mod Worked

@@ -1,6 +1,5 @@
 -- A diamond, worked out at seven tenths and below.
-use Rattle.std.proofs.Common.{◌≡◌, ◌≤◌, ◌*◌, ℕ, List, [], ◌∷◌, refl, arith}
-use Rattle.tac_core.specs.declared.edges.Edge.{Edge}
+use Rattle.std.proofs.Common.{◌≡◌, ℕ, [], ◌∷◌, refl, arith}
 use Rattle.tac_core.specs.declared.counts.FuncCounts.{FuncCounts}
 use Rattle.tac_core.specs.Counts.{edge_count}
 use Rattle.tac_core.specs.Weights.{in_weight, out_weight}

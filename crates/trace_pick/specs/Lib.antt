@@ -1,2 +1,3 @@
 pub mod Best
+pub mod Tables
 pub mod Traces

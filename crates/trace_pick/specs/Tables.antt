@@ -1,0 +1,57 @@
+-- What the tables by label say, from which the traces are read.
+use Rattle.std.specs.Prelude.{◌≡◌, ℕ, suc, ◌+◌, ◌<◌, ◌≤◌, ◌↔◌, List, Option, Some, None, length, slice_get, slice_index_or}
+use Rattle.tac_core.specs.declared.code.TacFunc.{TacFunc}
+use Rattle.tac_core.specs.declared.counts.FuncCounts.{FuncCounts}
+use Rattle.tac_core.specs.Traces.{Labels, StandsAt, ops_at}
+use Rattle.trace_pick.specs.Best.{Follows}
+use Rattle.trace_pick.specs.Traces.{most_ops}
+
+-- a table by label that has, for each label, the one that stands in the relation to it
+pub record IsTable (blocks : ℕ) (R : ℕ → ℕ → Type 0) (table : List (Option ℕ)) : Type 0 where
+  pub many : length table ≡ blocks
+  pub tells : (a b : ℕ) → (slice_get table a ≡ Some (Some b)) ↔ R a b
+
+-- the operations of a block's trace, up to the block and with it
+abbrev pub sum_at : (sums : List ℕ) → ℕ → ℕ
+sum_at sums b = slice_index_or sums b 0
+
+-- b stands right behind a in a trace: it follows, and the trace has room
+pub record IsJoined (f : TacFunc) (c : FuncCounts) (sums : List ℕ) (a b : ℕ) : Type 0 where
+  pub follows : Follows f c a b
+  pub room : sum_at sums a + ops_at f b ≤ most_ops
+
+-- no block stands before b in its trace
+abbrev pub Begins : (f : TacFunc) → (c : FuncCounts) → (sums : List ℕ) → (b : ℕ) → Type 0
+Begins f c sums b = (a : ℕ) → IsJoined f c sums a b → ⊥
+
+-- the sum of a block, from the block before it
+pub data IsSummed (f : TacFunc) (c : FuncCounts) (sums : List ℕ) (b : ℕ) : Type 0 where
+  First : Begins f c sums b → sum_at sums b ≡ ops_at f b → IsSummed f c sums b
+  Behind : (a : ℕ) → IsJoined f c sums a b → sum_at sums b ≡ sum_at sums a + ops_at f b → IsSummed f c sums b
+
+abbrev pub AreSums : (f : TacFunc) → (c : FuncCounts) → (sums : List ℕ) → Type 0
+AreSums f c sums = (b : ℕ) → b < length f.blocks → IsSummed f c sums b
+
+-- a whole trace, from its first block on
+pub record IsTrace (f : TacFunc) (c : FuncCounts) (sums : List ℕ) (first : ℕ) (chain : Labels) : Type 0 where
+  pub begins : slice_get chain 0 ≡ Some first
+  pub linked : (k a b : ℕ) → slice_get chain k ≡ Some a → slice_get chain (suc k) ≡ Some b → IsJoined f c sums a b
+  pub whole : (k a b : ℕ) → slice_get chain k ≡ Some a → slice_get chain (suc k) ≡ None → IsJoined f c sums a b → ⊥
+
+-- a block begins a trace that is among these
+pub record IsAmong (chains : List Labels) (l : ℕ) : Type 0 where
+  pub chain : ℕ
+  pub stands : StandsAt chains l chain 0
+
+-- a chain is a trace from one of so many first labels on
+pub record IsFrom (f : TacFunc) (c : FuncCounts) (sums : List ℕ) (upto : ℕ) (chain : Labels) : Type 0 where
+  pub first : ℕ
+  pub early : first < upto
+  pub begins : Begins f c sums first
+  pub trace : IsTrace f c sums first chain
+
+-- all traces from so many first labels on, in order
+pub record AreTracesFrom (f : TacFunc) (c : FuncCounts) (sums : List ℕ) (upto : ℕ) (chains : List Labels) : Type 0 where
+  pub each : (i : ℕ) (chain : Labels) → slice_get chains i ≡ Some chain → IsFrom f c sums upto chain
+  pub all : (l : ℕ) → l < upto → Begins f c sums l → IsAmong chains l
+  pub in_order : (i j l m : ℕ) → i < j → StandsAt chains l i 0 → StandsAt chains m j 0 → l < m

@@ -11,7 +11,7 @@ use Rattle.trace_pick.specs.Best.{Follows}
 use Rattle.trace_pick.specs.Traces.{AreTraces}
 use Rattle.trace_pick.proofs.Alone.{same_number}
 
-both_true : (x y : Bool) → (x && y) ≡ true → (x ≡ true) × (y ≡ true)
+pub both_true : (x y : Bool) → (x && y) ≡ true → (x ≡ true) × (y ≡ true)
 both_true true true h = (refl, refl)
 both_true true false h = (refl, h)
 both_true false y h = (h, absurd cc)

@@ -1,8 +1,9 @@
 -- What the tables by label say, from which the traces are read.
-use Rattle.std.specs.Prelude.{◌≡◌, ℕ, suc, ◌+◌, ◌<◌, ◌≤◌, ◌↔◌, List, Option, Some, None, length, slice_get, slice_index_or}
+use Rattle.std.specs.Prelude.{◌≡◌, ℕ, suc, ◌+◌, ◌<◌, ◌≤◌, ◌↔◌, nat_le, Bool, true, not, if◌then◌else◌, List, Option, Some, None, length, slice_get, slice_index_or}
+use Rattle.tac_core.specs.declared.code.Block.{Block}
 use Rattle.tac_core.specs.declared.code.TacFunc.{TacFunc}
 use Rattle.tac_core.specs.declared.counts.FuncCounts.{FuncCounts}
-use Rattle.tac_core.specs.Traces.{Labels, StandsAt, ops_at}
+use Rattle.tac_core.specs.Traces.{Labels, StandsAt, ops_of, ops_at}
 use Rattle.trace_pick.specs.Best.{Follows}
 use Rattle.trace_pick.specs.Traces.{most_ops}
 
@@ -55,3 +56,60 @@ pub record AreTracesFrom (f : TacFunc) (c : FuncCounts) (sums : List ℕ) (upto 
   pub each : (i : ℕ) (chain : Labels) → slice_get chains i ≡ Some chain → IsFrom f c sums upto chain
   pub all : (l : ℕ) → l < upto → Begins f c sums l → IsAmong chains l
   pub in_order : (i j l m : ℕ) → i < j → StandsAt chains l i 0 → StandsAt chains m j 0 → l < m
+
+-- block b has room behind block a in a trace
+abbrev pub has_room : List Block → (sums : List ℕ) → (a b : ℕ) → Bool
+has_room blocks sums a b = nat_le (sum_at sums a + ops_of (slice_get blocks b)) 2048
+
+-- b begins a trace, by what the table says of the block that it follows
+abbrev pub begins_by : List Block → (sums : List ℕ) → Option (Option ℕ) → ℕ → Bool
+begins_by blocks sums None b = true
+begins_by blocks sums (Some None) b = true
+begins_by blocks sums (Some (Some a)) b = not (has_room blocks sums a b)
+
+abbrev pub begins : List Block → (prior : List (Option ℕ)) (sums : List ℕ) → ℕ → Bool
+begins blocks prior sums b = begins_by blocks sums (slice_get prior b) b
+
+-- the block behind a block in its trace, by what the table says of the block on its best edge
+abbrev pub behind_by : List Block → (prior : List (Option ℕ)) (sums : List ℕ) → Option (Option ℕ) → Option ℕ
+behind_by blocks prior sums None = None
+behind_by blocks prior sums (Some None) = None
+behind_by blocks prior sums (Some (Some b)) = if begins blocks prior sums b then None else Some b
+
+abbrev pub behind : List Block → (prior next : List (Option ℕ)) (sums : List ℕ) → ℕ → Option ℕ
+behind blocks prior next sums a = behind_by blocks prior sums (slice_get next a)
+
+-- a walk from its first label on, as far as steps lead
+pub record IsWalk (step : ℕ → Option ℕ) (first : ℕ) (chain : Labels) : Type 0 where
+  pub begun : slice_get chain 0 ≡ Some first
+  pub linked : (k a b : ℕ) → slice_get chain k ≡ Some a → slice_get chain (suc k) ≡ Some b → step a ≡ Some b
+  pub whole : (k a : ℕ) → slice_get chain k ≡ Some a → slice_get chain (suc k) ≡ None → step a ≡ None
+
+-- a walk so far, which now stands at a label
+pub record IsWalkTo (step : ℕ → Option ℕ) (first at : ℕ) (chain : Labels) : Type 0 where
+  pub begun : slice_get chain 0 ≡ Some first
+  pub linked : (k a b : ℕ) → slice_get chain k ≡ Some a → slice_get chain (suc k) ≡ Some b → step a ≡ Some b
+  pub last : (k a : ℕ) → slice_get chain k ≡ Some a → slice_get chain (suc k) ≡ None → a ≡ at
+
+pub record IsWalkFrom (step : ℕ → Option ℕ) (starts : ℕ → Bool) (upto : ℕ) (chain : Labels) : Type 0 where
+  pub first : ℕ
+  pub early : first < upto
+  pub is_start : starts first ≡ true
+  pub walk : IsWalk step first chain
+
+-- the walks from those of the first labels that are starts, in order
+pub record AreWalks (step : ℕ → Option ℕ) (starts : ℕ → Bool) (upto : ℕ) (chains : List Labels) : Type 0 where
+  pub each : (i : ℕ) (chain : Labels) → slice_get chains i ≡ Some chain → IsWalkFrom step starts upto chain
+  pub all : (l : ℕ) → l < upto → starts l ≡ true → IsAmong chains l
+  pub in_order : (i j l m : ℕ) → i < j → StandsAt chains l i 0 → StandsAt chains m j 0 → l < m
+
+-- no block and no sum passes the most operations of a trace
+abbrev pub AreFewOps : List Block → Type 0
+AreFewOps blocks = (l : ℕ) → ops_of (slice_get blocks l) ≤ 2048
+
+abbrev pub AreLow : (sums : List ℕ) → Type 0
+AreLow sums = (l : ℕ) → sum_at sums l ≤ 2048
+
+-- sums rise with each step
+abbrev pub Rise : (step : ℕ → Option ℕ) (sums : List ℕ) → Type 0
+Rise step sums = (a b : ℕ) → step a ≡ Some b → sum_at sums a < sum_at sums b

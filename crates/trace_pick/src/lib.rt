@@ -1,2 +1,5 @@
 //! The traces of a program: which chains of blocks its counts choose.
 #![tactic(auto)]
+
+mod best;
+mod walks;

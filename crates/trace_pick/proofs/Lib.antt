@@ -3,6 +3,7 @@ pub mod Chained
 pub mod Cycles
 pub mod Edges
 pub mod Grown
+pub mod Linked
 pub mod Pieces
 pub mod Read
 pub mod Worked

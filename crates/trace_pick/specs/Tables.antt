@@ -2,9 +2,10 @@
 use Rattle.std.specs.Prelude.{◌≡◌, ℕ, suc, ◌+◌, ◌<◌, ◌≤◌, ◌↔◌, nat_le, Bool, true, not, if◌then◌else◌, List, Option, Some, None, length, slice_get, slice_index_or}
 use Rattle.tac_core.specs.declared.code.Block.{Block}
 use Rattle.tac_core.specs.declared.code.TacFunc.{TacFunc}
+use Rattle.tac_core.specs.declared.edges.Edge.{Edge}
 use Rattle.tac_core.specs.declared.counts.FuncCounts.{FuncCounts}
 use Rattle.tac_core.specs.Traces.{Labels, StandsAt, ops_of, ops_at}
-use Rattle.trace_pick.specs.Best.{Follows}
+use Rattle.trace_pick.specs.Best.{IsMutuallyBest, Follows}
 use Rattle.trace_pick.specs.Traces.{most_ops}
 
 -- a table by label that has, for each label, the one that stands in the relation to it
@@ -113,3 +114,25 @@ AreLow sums = (l : ℕ) → sum_at sums l ≤ 2048
 -- sums rise with each step
 abbrev pub Rise : (step : ℕ → Option ℕ) (sums : List ℕ) → Type 0
 Rise step sums = (a b : ℕ) → step a ≡ Some b → sum_at sums a < sum_at sums b
+
+-- one of the first edges leads from a to b
+pub record IsEarly (edges : List Edge) (upto a b : ℕ) : Type 0 where
+  pub place : ℕ
+  pub early : place < upto
+  pub edge : Edge
+  pub is : slice_get edges place ≡ Some edge
+  pub from_is : edge.from ≡ a
+  pub to_is : edge.to ≡ b
+
+-- the mutually best of the first edges, from a to b
+abbrev pub IsEarlyBest : (f : TacFunc) → (c : FuncCounts) → (upto a b : ℕ) → Type 0
+IsEarlyBest f c upto a b = IsMutuallyBest f c a b × IsEarly c.edges upto a b
+
+-- tables of the mutually best of the first edges: out of each block, and to it
+pub record AreLinks (f : TacFunc) (c : FuncCounts) (upto : ℕ) (prior next : List (Option ℕ)) : Type 0 where
+  pub priors : IsTable (length f.blocks) (λ b a. IsEarlyBest f c upto a b) prior
+  pub nexts : IsTable (length f.blocks) (IsEarlyBest f c upto) next
+
+-- each edge leads from a block to a block
+abbrev pub AreWithin : (blocks : ℕ) → List Edge → Type 0
+AreWithin blocks edges = (k : ℕ) (e : Edge) → slice_get edges k ≡ Some e → (e.from < blocks) × (e.to < blocks)

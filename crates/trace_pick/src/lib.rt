@@ -2,4 +2,5 @@
 #![tactic(auto)]
 
 mod best;
+mod links;
 mod walks;

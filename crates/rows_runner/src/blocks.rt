@@ -87,6 +87,16 @@ impl Blocks {
         Ok(())
     }
 
+    /// Lets a file's lines stand for a name.
+    pub fn define(&mut self, name: &str, text: &str) -> Result<(), AllocError> {
+        self.begin_def(name)?;
+        for line in text.lines() {
+            let line = format!(in self.alloc; "    {line}")?;
+            self.read_inside(line.as_str())?;
+        }
+        Ok(())
+    }
+
     fn begin_table(&mut self, names: &str) -> Result<(), AllocError> {
         self.part = Part::Table;
         let names = String::from_str(self.alloc, names)?;

@@ -95,6 +95,7 @@ fn run_text<C: Command>(
     rt: &HostRuntime,
     alloc: Global,
     command: &C,
+    folder: &str,
     name: &str,
     text: &str,
 ) -> io::Result<Tally> {
@@ -104,10 +105,20 @@ fn run_text<C: Command>(
         if blocks.is_ended_by(line) {
             run_block(rt, alloc, command, name, &mut blocks, &mut tally)?;
         }
-        blocks.read(at, line)?;
+        match named_file(line) {
+            Some((def, file)) => {
+                blocks.define(def, read_file(rt, alloc, folder, file)?.as_str())?
+            }
+            None => blocks.read(at, line)?,
+        }
     }
     run_block(rt, alloc, command, name, &mut blocks, &mut tally)?;
     Ok(tally)
+}
+
+/// The name and the file of `let NAME from FILE`.
+fn named_file(line: &str) -> Option<(&str, &str)> {
+    line.strip_prefix("let ")?.split_once(" from ")
 }
 
 /// Runs the rows of a file, and prints their count.
@@ -119,7 +130,7 @@ fn run_file<C: Command>(
     name: &str,
 ) -> io::Result<Tally> {
     let text = read_file(rt, alloc, folder, name)?;
-    let tally = run_text(rt, alloc, command, name, text.as_str())?;
+    let tally = run_text(rt, alloc, command, folder, name, text.as_str())?;
     let (tried, wrong) = (tally.tried, tally.wrong);
     println!(rt; "{name}: {tried} calls, {wrong} not as stated")?;
     Ok(tally)

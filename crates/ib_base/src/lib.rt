@@ -14,6 +14,7 @@ mod real_host;
 mod span;
 mod stream;
 mod text;
+mod waiting_output;
 
 pub use host::{Host, HostErr};
 pub use ib_meaning::{FaultKind, Place};

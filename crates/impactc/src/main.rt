@@ -17,9 +17,13 @@ fn status(rt: HostRuntime) -> Status {
         Ok(words) => words,
         Err(error) => return refusal(&error),
     };
-    match RealHost::new(rt, alloc) {
-        Ok(mut host) => impactc(alloc, words.as_slice(), &mut host),
-        Err(_) => Status::NoMemory,
+    let Ok(mut host) = RealHost::new(rt, alloc) else {
+        return Status::NoMemory;
+    };
+    let status = impactc(alloc, words.as_slice(), &mut host);
+    match host.flush() {
+        Ok(()) => status,
+        Err(_) => Status::HostFault,
     }
 }
 

@@ -1,7 +1,11 @@
 pub mod Agreeing
 pub mod Alike
+pub mod Good
 pub mod Numbers
+pub mod OneEach
 pub mod Operations
 pub mod Places
+pub mod Rows
 pub mod Simulation
+pub mod Valid
 pub mod Words

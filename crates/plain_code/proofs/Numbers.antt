@@ -136,7 +136,7 @@ module _ (low : ℕ) (places : List Place) where
   all_long at to home [] = refl
   all_long at to home (act ∷ acts) = append_long (spread low at home act) (spread_all low at home acts) (spread low to home act) (spread_all low to home acts) (spread_long at to home act) (all_long at to home acts)
 
-  rest_long : (at to : ℕ → ℕ) (ops : List TacOp) (b : Block) → length (rest_items low places at ops b) ≡ length (rest_items low places to ops b)
+  pub rest_long : (at to : ℕ → ℕ) (ops : List TacOp) (b : Block) → length (rest_items low places at ops b) ≡ length (rest_items low places to ops b)
   rest_long at to [] b = all_long at to (place_of places b.end_stmt) (end_acts b.«end»)
   rest_long at to (op ∷ ops) b =
       append_long (spread low at (place_of places op.stmt) (Do op.act)) (rest_items low places at ops b) (spread low to (place_of places op.stmt) (Do op.act)) (rest_items low places to ops b)

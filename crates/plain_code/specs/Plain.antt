@@ -1,5 +1,6 @@
 -- A three-address program as code in source order, one operation a word, none flagged.
-use Rattle.std.specs.Prelude.{ℕ, zero, suc, ◌+◌, ◌-◌, nat_lt, ◌==◌, List, [], ◌∷◌, ◌++◌, map, length, Option, Some, None, false, if◌then◌else◌}
+use Rattle.std.specs.Prelude.{ℕ, zero, suc, ◌+◌, ◌-◌, ◌≤◌, nat_lt, ◌==◌, List, [], ◌∷◌, ◌++◌, map, length, Option, Some, None, false, if◌then◌else◌}
+use Rattle.std.specs.List.{All}
 use Rattle.ib_meaning.specs.declared.place.Place.{Place}
 use Rattle.tac_core.specs.declared.code.TacOp.{TacOp}
 use Rattle.tac_core.specs.declared.code.End.{End}
@@ -132,3 +133,7 @@ module _ (low : ℕ) where
 -- for a machine with so many registers
 unfoldable pub plain : (regs : ℕ) → Program → RawCode
 plain regs p = record { image = p.image; funcs = funcs_from (regs - 8) p.places 1 p.funcs }
+
+-- no function needs more slots than a machine's function may have; a lowered program of few registers keeps it
+abbrev pub HasFewSlots : (regs : ℕ) → Program → Type 0
+HasFewSlots regs p = All (λ (f : TacFunc). f.regs - (regs - 8) ≤ 1048576) p.funcs

@@ -1,15 +1,16 @@
 -- Control enters a chain at its first block alone.
-use Rattle.std.proofs.Common.{◌≡◌, ◌≢◌, ℕ, zero, suc, ◌+◌, ◌<◌, ◌≤◌, ◌⊎◌, inl, inr, List, [], ◌∷◌, ◌++◌, length, Option, Some, None, refl, sym, ap, ◌∙◌, subst, ⊎_elim, arith, append_assoc, length-append, add-one}
-use Rattle.std.specs.Prelude.{slice_get, IfSome, MatchOption}
-use Rattle.std.specs.List.{All}
+use Rattle.std.proofs.Common.{◌≡◌, ℕ, zero, suc, ◌<◌, ◌⊎◌, inl, inr, Bool, true, false, if◌then◌else◌, List, [], ◌∷◌, ◌++◌, length, Some, refl, sym, ap, ◌∙◌, subst, ⊎_elim, arith, append_assoc}
+use Rattle.std.specs.Prelude.{slice_get, map, bytes_eq}
+use Rattle.std.specs.List.{Any}
+use Rattle.std.proofs.lemmas.List.{get_or_default}
 use Rattle.std.proofs.lemmas.Option.{slice_get_cases, slice_get_within}
 use Rattle.tac_core.specs.declared.code.End.{End}
 use Rattle.tac_core.specs.declared.code.End.TheVariants.{Jump, Branch, Call, Ret}
 use Rattle.tac_core.specs.declared.code.Block.{Block}
 use Rattle.tac_core.specs.declared.code.TacFunc.{TacFunc}
 use Rattle.tac_core.specs.Counts.{IsTargetOf, LeadsTo, HasEdge}
-use Rattle.tac_core.specs.Program.{Program}
-use Rattle.tac_core.specs.Rules.{IsValid, IsGoodFunc, IsGoodBlock, IsGoodEnd, IsTarget}
+use Rattle.tac_core.specs.Program.{Program, main_name, main_in, main_of}
+use Rattle.tac_core.specs.Rules.{IsMain, IsValid, IsGoodFunc, IsGoodBlock, IsGoodEnd, IsTarget}
 use Rattle.tac_core.specs.Traces.{Labels, StandsAt, AreChains, AreFormed, HasNoSideEntrance, StaysIn, GoesOn, FormedProgram}
 use Rattle.tac_core.proofs.Lists.{All-get, slice_get_seam}
 use Rattle.sb_formed.specs.Formed.{first_of}
@@ -161,3 +162,34 @@ is_formed p valid are func f e =
     ))
     (λ c. let le = c.0 in absurd (omega arith))
     (slice_get_cases p.traces func).1
+
+-- ---- `main` is there
+
+main_below : (funcs : List TacFunc) (i : ℕ) (f : TacFunc) → slice_get funcs i ≡ Some f → f.name ≡ main_name → main_in (map (λ g. g.name) funcs) < length funcs
+main_below [] i f e named = cc
+main_below (g ∷ funcs) i f e named = by (bytes_eq main_name g.name) refl (later i e) (λ k is. main_below funcs k f is named)
+  where
+    later : (i : ℕ) → slice_get (g ∷ funcs) i ≡ Some f → bytes_eq main_name g.name ≡ false → (k : ℕ) × (slice_get funcs k ≡ Some f)
+    later zero e other =
+        let one : g ≡ f = cc in
+        let same : bytes_eq main_name main_name ≡ false = subst (λ n. bytes_eq main_name n ≡ false) (ap (λ (h : TacFunc). h.name) one ∙ named) other in
+        let yes' : bytes_eq main_name main_name ≡ true = refl in
+        cc
+    later (suc k) e other = (k, e)
+
+    by : (b : Bool) → bytes_eq main_name g.name ≡ b → (bytes_eq main_name g.name ≡ false → (k : ℕ) × (slice_get funcs k ≡ Some f)) → ((k : ℕ) → slice_get funcs k ≡ Some f → main_in (map (λ h. h.name) funcs) < length funcs) → (if b then 0 else suc (main_in (map (λ h. h.name) funcs))) < suc (length funcs)
+    by true is other rest = omega arith
+    by false is other rest =
+        let k = other is in
+        let lt = rest k.0 k.1 in
+        omega arith
+
+pub main_there : (p : Program) → Any IsMain p.funcs → (f : TacFunc) × (slice_get p.funcs (main_of p) ≡ Some f)
+main_there p any =
+    let is : slice_get p.funcs any.0 ≡ Some any.1 =
+    ⊎_elim
+    (λ c. c.2 ∙ ap Some (sym c.3 ∙ get_or_default p.funcs any.0 c.0 any.1 any.2 ∙ any.3))
+    (λ c. let le = c.0 in let lt = any.2 in absurd (omega arith))
+    (slice_get_cases p.funcs any.0).1 in
+    let below = main_below p.funcs any.0 any.1 is any.4.0 in
+    ⊎_elim (λ c. (c.0, c.2)) (λ c. let le = c.0 in absurd (omega arith)) (slice_get_cases p.funcs (main_of p)).1

@@ -1,3 +1,6 @@
 pub mod Acts
 pub mod Found
 pub mod Heads
+pub mod Calls
+pub mod Steps
+pub mod Agreeing

@@ -1,4 +1,5 @@
 -- The structured code of the code as plain data.
+use Rattle.std.proofs.Common.{Box, Global}
 use Rattle.tac_code.specs.declared.code.Exit.{Exit}
 use Rattle.tac_code.specs.declared.code.Exit.TheVariants as x
 use Rattle.tac_code.specs.declared.code.Code.{Code, Row_of-Code, end_of-Code, more_of-Code}
@@ -37,3 +38,6 @@ abbrev mutual
   pub row_code : {m : _} → Row_of-Code m → plain.Code → plain.Code
   row_code end_of-Code last = last
   row_code (more_of-Code a rest) last = code_of a ⨾ row_code rest last
+
+abbrev pub boxed_of : Box Code Global → plain.Code
+boxed_of code = code_of code.value

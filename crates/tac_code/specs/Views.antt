@@ -1,5 +1,6 @@
 -- The structured code of the code as plain data.
 use Rattle.std.proofs.Common.{Box, Global}
+use Rattle.std.specs.Prelude.{List, [], ◌∷◌}
 use Rattle.tac_code.specs.declared.code.Exit.{Exit}
 use Rattle.tac_code.specs.declared.code.Exit.TheVariants as x
 use Rattle.tac_code.specs.declared.code.Code.{Code, Row_of-Code, end_of-Code, more_of-Code}
@@ -41,3 +42,8 @@ abbrev mutual
 
 abbrev pub boxed_of : Box Code Global → plain.Code
 boxed_of code = code_of code.value
+
+-- one after the other, and then the last
+abbrev pub nested : List plain.Code → plain.Code → plain.Code
+nested [] last = last
+nested (a ∷ rest) last = a ⨾ nested rest last

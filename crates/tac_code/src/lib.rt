@@ -3,10 +3,12 @@
 
 mod assigned;
 mod code;
+mod empty;
 mod operators;
 mod parts;
 
 pub use assigned::Update;
 pub use code::{Code, Exit, Test};
+pub use empty::{row, some_code};
 pub use operators::{bound, cut, given_by, narrows, operated, scaled, scaled_in, sign};
 pub use parts::{behind, both, boxed, does, moved, number};

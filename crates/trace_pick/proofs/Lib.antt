@@ -6,4 +6,6 @@ pub mod Grown
 pub mod Linked
 pub mod Pieces
 pub mod Read
+pub mod Settling
+pub mod WalkedBack
 pub mod Worked

@@ -13,12 +13,12 @@ use Rattle.trace_pick.specs.Tables.{IsTable, IsEarly, IsEarlyBest, AreLinks}
 use Rattle.trace_pick.proofs.Alone.{one_in, one_out}
 use Rattle.trace_pick.proofs.Edges.{taken_stands}
 
-set_same : {X : Type 0} (xs : List X) (i : ℕ) (y : X) → i < length xs → slice_get (slice_set xs i y) i ≡ Some y
+pub set_same : {X : Type 0} (xs : List X) (i : ℕ) (y : X) → i < length xs → slice_get (slice_set xs i y) i ≡ Some y
 set_same [] i y lt = absurd (omega arith)
 set_same (x ∷ xs) zero y lt = refl
 set_same (x ∷ xs) (suc i) y lt = set_same xs i y (omega arith)
 
-set_other : {X : Type 0} (xs : List X) (i j : ℕ) (y : X) → j ≢ i → slice_get (slice_set xs i y) j ≡ slice_get xs j
+pub set_other : {X : Type 0} (xs : List X) (i j : ℕ) (y : X) → j ≢ i → slice_get (slice_set xs i y) j ≡ slice_get xs j
 set_other [] i j y ne = refl
 set_other (x ∷ xs) zero zero y ne = absurd (ne refl)
 set_other (x ∷ xs) zero (suc j) y ne = refl
@@ -38,7 +38,7 @@ table_none n R table is many none = record {
 }
 
 -- one more in a table: whoever stood there for x is y too
-table_set : (n : ℕ) (R S : ℕ → ℕ → Type 0) (table grown : List (Option ℕ)) (x y : ℕ) → grown ≡ slice_set table x (Some y) → x < n → S x y
+pub table_set : (n : ℕ) (R S : ℕ → ℕ → Type 0) (table grown : List (Option ℕ)) (x y : ℕ) → grown ≡ slice_set table x (Some y) → x < n → S x y
     → ((a b : ℕ) → R a b → S a b) → ((b : ℕ) → S x b → b ≡ y) → ((a b : ℕ) → a ≢ x → S a b → R a b) → IsTable n R table → IsTable n S grown
 table_set n R S table grown x y is lt own more one less h = subst (IsTable n S) (sym is) (record { many = length-set table x (Some y) ∙ h.many; tells = tells })
   where
@@ -58,7 +58,7 @@ table_set n R S table grown x y is lt own more one less h = subst (IsTable n S) 
         (eqb_tells a x)
 
 -- the same table for a relation that says the same
-table_same : (n : ℕ) (R S : ℕ → ℕ → Type 0) (table : List (Option ℕ)) → ((a b : ℕ) → R a b → S a b) → ((a b : ℕ) → S a b → R a b) → IsTable n R table → IsTable n S table
+pub table_same : (n : ℕ) (R S : ℕ → ℕ → Type 0) (table : List (Option ℕ)) → ((a b : ℕ) → R a b → S a b) → ((a b : ℕ) → S a b → R a b) → IsTable n R table → IsTable n S table
 table_same n R S table more less h = record {
   many = h.many;
   tells = λ a b. (λ e. more a b ((h.tells a b).0 e), λ s. (h.tells a b).1 (less a b s));
@@ -144,7 +144,7 @@ links_done f c i prior next all h = (
         let lt = slice_get_within c.edges s.place s.edge s.is in
         record { place = s.place; early = omega arith; edge = s.edge; is = s.is; from_is = s.from_is; to_is = s.to_is }
 
-many_same : {X : Type 0} (n : ℕ) (x : X) → length (replicate n x) ≡ n
+pub many_same : {X : Type 0} (n : ℕ) (x : X) → length (replicate n x) ≡ n
 many_same zero x = refl
 many_same (suc n) x = ap suc (many_same n x)
 

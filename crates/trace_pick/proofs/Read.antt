@@ -15,10 +15,10 @@ pub record AreTables (f : TacFunc) (c : FuncCounts) (prior next : List (Option �
   pub priors : IsTable (length f.blocks) (λ b a. Follows f c a b) prior
   pub nexts : IsTable (length f.blocks) (IsMutuallyBest f c) next
 
-room_true : (m n : ℕ) → nat_le m n ≡ true → m ≤ n
+pub room_true : (m n : ℕ) → nat_le m n ≡ true → m ≤ n
 room_true m n h = grind (arith, nat_tests)
 
-room_false : (m n : ℕ) → nat_le m n ≡ false → m ≤ n → ⊥
+pub room_false : (m n : ℕ) → nat_le m n ≡ false → m ≤ n → ⊥
 room_false m n h le = grind (arith, nat_tests)
 
 turned : (b : Bool) → not b ≡ true → b ≡ false

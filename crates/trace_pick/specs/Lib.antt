@@ -1,3 +1,4 @@
 pub mod Best
+pub mod Settled
 pub mod Tables
 pub mod Traces

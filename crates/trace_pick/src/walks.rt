@@ -7,7 +7,7 @@ use std::alloc::{AllocError, Global};
 use tac_core::{Block, Chain, number_at};
 
 /// The operations of a block, its end included.
-fn ops_at(blocks: &[Block], label: u32) -> u64
+pub(crate) fn ops_at(blocks: &[Block], label: u32) -> u64
     requires { AreFewOps blocks.now }
     ensures { result ≡ ops_of (slice_get blocks.now label) }
 {
@@ -17,7 +17,7 @@ fn ops_at(blocks: &[Block], label: u32) -> u64
     }
 }
 
-fn sum_at(sums: &[u64], label: u32) -> u64
+pub(crate) fn sum_at(sums: &[u64], label: u32) -> u64
     ensures { result ≡ sum_at sums.now label }
 {
     match sqlite_items::at(sums, label as usize) {
@@ -26,7 +26,7 @@ fn sum_at(sums: &[u64], label: u32) -> u64
     }
 }
 
-fn has_room(blocks: &[Block], sums: &[u64], from: u32, to: u32) -> bool
+pub(crate) fn has_room(blocks: &[Block], sums: &[u64], from: u32, to: u32) -> bool
     requires few { AreFewOps blocks.now }
     requires low { AreLow sums.now }
     ensures { result ≡ has_room blocks.now sums.now from to }

@@ -286,3 +286,8 @@ settle_ends f c blocks next cut kept old sums first at none can h = record {
   first_settled = h.so_far.first_settled;
   grown = h.so_far.grown;
 }
+
+pub ops_some : (blocks : List Block) (l : ℕ) → l < length blocks → 0 < ops_of (slice_get blocks l)
+ops_some [] l lt = absurd (omega arith)
+ops_some (b ∷ bs) zero lt = omega arith
+ops_some (b ∷ bs) (suc l) lt = ops_some bs l (omega arith)

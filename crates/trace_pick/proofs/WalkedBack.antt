@@ -1,5 +1,5 @@
 -- A walk back along best edges finds where a walk forth may begin.
-use Rattle.std.proofs.Common.{◌≡◌, ◌≢◌, ◌⊎◌, inl, inr, ◌+◌, ◌<◌, ℕ, List, Option, Some, None, Bool, true, false, length, refl, sym, ap, ◌∙◌, subst, ⊎_elim, arith, if◌then◌else◌, ◌&&◌, ◌||◌}
+use Rattle.std.proofs.Common.{◌≡◌, ◌≢◌, ◌⊎◌, inl, inr, ◌+◌, ◌<◌, ℕ, zero, suc, List, [], ◌∷◌, Option, Some, None, Bool, true, false, length, refl, sym, ap, ◌∙◌, subst, ⊎_elim, arith, if◌then◌else◌, ◌&&◌, ◌||◌}
 use Rattle.std.specs.Prelude.{slice_get, slice_set, slice_index_or, nat_lt, ◌==◌}
 use Rattle.std.specs.List.{sum_by}
 use Rattle.std.proofs.lemmas.Bool.{cases_lt}
@@ -258,3 +258,22 @@ walk_back_closes f c prior weights old seen label at first before is none can h 
 
     cut : IsCutBefore f c first
     cut = record { on = on_first; first = goes }
+
+pub seen_none : (seen : List Bool) (l : ℕ) → None ≡ slice_get seen l → false ≡ slice_index_or seen l false
+seen_none [] l e = refl
+seen_none (x ∷ xs) zero e = absurd cc
+seen_none (x ∷ xs) (suc l) e = seen_none xs l e
+
+pub seen_some : (seen : List Bool) (l : ℕ) (x : Bool) → Some x ≡ slice_get seen l → x ≡ slice_index_or seen l false
+seen_some seen l x e = sym (get_or_from_slice_get seen l x false (sym e))
+
+pub earlier_in : (weights : List ℕ) (a b n : ℕ) → a < n → b < n → earlier weights a b < n
+earlier_in weights a b n la lb = by_test (goes_before weights a b)
+  where
+    by_test : (t : Bool) → (if t then a else b) < n
+    by_test true = la
+    by_test false = lb
+
+pub not_some : (x : Option ℕ) → ((b : ℕ) → x ≡ Some b → ⊥) → None ≡ x
+not_some None h = refl
+not_some (Some b) h = absurd (h b refl)

@@ -1,9 +1,11 @@
 pub mod Alone
 pub mod Chained
+pub mod Cut
 pub mod Cycles
 pub mod Edges
 pub mod Grown
 pub mod Linked
+pub mod Picked
 pub mod Pieces
 pub mod Read
 pub mod Settling

@@ -7,7 +7,7 @@ use Rattle.tac_core.specs.declared.counts.FuncCounts.{FuncCounts}
 use Rattle.tac_core.specs.Traces.{ops_of, ops_at}
 use Rattle.tac_core.specs.Weights.{AreByLabel, in_weight}
 use Rattle.trace_pick.specs.Best.{IsMutuallyBest, Reaches, GoesBefore, IsCutBefore, Follows}
-use Rattle.trace_pick.specs.Tables.{IsTable, sum_at, has_room, IsSummed}
+use Rattle.trace_pick.specs.Tables.{IsTable, sum_at, has_room, IsSummed, AreSums, AreFewOps, AreLow}
 
 -- a block at which a walk may begin: it follows none, and none that it reaches is cut
 pub record IsStart (f : TacFunc) (c : FuncCounts) (first : ℕ) : Type 0 where
@@ -136,3 +136,24 @@ pub record IsSettlingAt (f : TacFunc) (c : FuncCounts) (cut : List (Option ℕ))
   pub so_far : IsSettling f c cut old new first (Some at)
   pub reaches : Reaches f c first at
   pub at_settled : IsSettled new at
+
+-- what is known of a function's blocks and edges
+pub record IsKnown (f : TacFunc) (c : FuncCounts) : Type 0 where
+  pub leaves : (a b : ℕ) → IsMutuallyBest f c a b → a < length f.blocks
+  pub enters : (a b : ℕ) → IsMutuallyBest f c a b → b < length f.blocks
+  pub few : AreFewOps f.blocks
+
+-- the tables of a function after its first labels, cycles cut and sums given as far as they reach
+pub record AreSettledUpto (f : TacFunc) (c : FuncCounts) (upto : ℕ) (cut : List (Option ℕ)) (seen : List Bool) (sums : List ℕ) : Type 0 where
+  pub all : AreSettled f c cut sums None
+  pub low : AreLow sums
+  pub many_seen : length seen ≡ length f.blocks
+  pub back : AreSeenBack f c seen
+  pub within : (x : ℕ) → IsSeen seen x → IsSettled sums x
+  pub done : (l : ℕ) → l < upto → IsSettled sums l
+
+-- cycles are cut, and each block has its sum
+pub record AreCut (f : TacFunc) (c : FuncCounts) (cut : List (Option ℕ)) (sums : List ℕ) : Type 0 where
+  pub priors : IsTable (length f.blocks) (λ b a. Follows f c a b) cut
+  pub low : AreLow sums
+  pub sums_are : AreSums f c sums

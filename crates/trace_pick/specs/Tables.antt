@@ -4,9 +4,10 @@ use Rattle.tac_core.specs.declared.code.Block.{Block}
 use Rattle.tac_core.specs.declared.code.TacFunc.{TacFunc}
 use Rattle.tac_core.specs.declared.edges.Edge.{Edge}
 use Rattle.tac_core.specs.declared.counts.FuncCounts.{FuncCounts}
+use Rattle.tac_core.specs.Counts.{HasEdge}
 use Rattle.tac_core.specs.Traces.{Labels, StandsAt, ops_of, ops_at}
 use Rattle.trace_pick.specs.Best.{IsMutuallyBest, Follows}
-use Rattle.trace_pick.specs.Traces.{most_ops}
+use Rattle.trace_pick.specs.Traces.{most_ops, AreTraces}
 
 -- a table by label that has, for each label, the one that stands in the relation to it
 pub record IsTable (blocks : ℕ) (R : ℕ → ℕ → Type 0) (table : List (Option ℕ)) : Type 0 where
@@ -136,3 +137,13 @@ pub record AreLinks (f : TacFunc) (c : FuncCounts) (upto : ℕ) (prior next : Li
 -- each edge leads from a block to a block
 abbrev pub AreWithin : (blocks : ℕ) → List Edge → Type 0
 AreWithin blocks edges = (k : ℕ) (e : Edge) → slice_get edges k ≡ Some e → (e.from < blocks) × (e.to < blocks)
+
+-- a function's edges lead to its blocks, and no block has more operations than a trace may have
+pub record IsFit (f : TacFunc) : Type 0 where
+  pub targets : (a b : ℕ) → HasEdge f a b → b < length f.blocks
+  pub few : AreFewOps f.blocks
+
+-- the traces of the first functions
+pub record AreTracesUpto (funcs : List TacFunc) (counts : List FuncCounts) (upto : ℕ) (traces : List (List Labels)) : Type 0 where
+  pub many : length traces ≡ upto
+  pub each : (i : ℕ) (f : TacFunc) (c : FuncCounts) (chains : List Labels) → slice_get funcs i ≡ Some f → slice_get counts i ≡ Some c → slice_get traces i ≡ Some chains → AreTraces f c chains

@@ -34,3 +34,8 @@ pub record AreTraces (f : TacFunc) (c : FuncCounts) (chains : List Labels) : Typ
   pub short : AreShort most_ops f chains
   pub begun : (i : ℕ) (chain : Labels) → slice_get chains i ≡ Some chain → 0 < length chain
   pub in_order : (i j l m : ℕ) → i < j → StandsAt chains l i 0 → StandsAt chains m j 0 → l < m
+
+-- the traces of each function, by its counts
+pub record AreTracesOf (funcs : List TacFunc) (counts : List FuncCounts) (traces : List (List Labels)) : Type 0 where
+  pub many : length traces ≡ length funcs
+  pub each : (i : ℕ) (f : TacFunc) (c : FuncCounts) (chains : List Labels) → slice_get funcs i ≡ Some f → slice_get counts i ≡ Some c → slice_get traces i ≡ Some chains → AreTraces f c chains

@@ -4,6 +4,10 @@
 mod back;
 mod best;
 mod links;
+mod program;
 mod settle;
+mod sums;
 mod tables;
 mod walks;
+
+pub use program::pick;

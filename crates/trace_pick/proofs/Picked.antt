@@ -132,3 +132,11 @@ traces_chained funcs counts traces of h = record { many = h.many; each = each }
         let many = of.many in
         let ci : slice_get counts i ≡ Some c = slice_get-get_or counts i (record { entries = 0; edges = [] }) (omega arith) in
         traces_are_chains f c chains (edges_there funcs counts i f c of fi ci) (h.each i f c chains fi ci ti)
+
+-- what holds of lists holds of equal ones
+pub of_same : (P : List Block → List (Option ℕ) → List (Option ℕ) → List ℕ → Type 0) (b b' : List Block) (p p' n n' : List (Option ℕ)) (s s' : List ℕ) → b' ≡ b → p' ≡ p → n' ≡ n → s' ≡ s → P b p n s → P b' p' n' s'
+of_same P b b' p p' n n' s s' eb ep en es h =
+    subst (λ z. P z p' n' s') (sym eb) (subst (λ z. P b z n' s') (sym ep) (subst (λ z. P b p z s') (sym en) (subst (λ z. P b p n z) (sym es) h)))
+
+pub of_same_back : (P : List Block → List (Option ℕ) → List (Option ℕ) → List ℕ → Type 0) (b b' : List Block) (p p' n n' : List (Option ℕ)) (s s' : List ℕ) → b' ≡ b → p' ≡ p → n' ≡ n → s' ≡ s → P b' p' n' s' → P b p n s
+of_same_back P b b' p p' n n' s s' eb ep en es h = of_same P b' b p' p n' n s' s (sym eb) (sym ep) (sym en) (sym es) h

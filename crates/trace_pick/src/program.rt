@@ -24,13 +24,14 @@ fn pick_func(
 {
     let links = links_of(alloc, func, counts)?;
     let sums = sums_of(alloc, func, counts, &links)?;
-    traces_of(
+    let chains = traces_of(
         alloc,
         func.blocks.as_slice(),
         sums.prior.as_slice(),
         links.next.as_slice(),
         sums.sums.as_slice(),
-    )
+    )?;
+    Ok(chains)
 }
 
 /// The traces of each function, by how often its edges were taken. Only want of memory is refused.

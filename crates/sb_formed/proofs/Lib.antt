@@ -4,3 +4,5 @@ pub mod Heads
 pub mod Calls
 pub mod Steps
 pub mod Agreeing
+pub mod Straight
+pub mod Needs

@@ -1,6 +1,6 @@
 -- What superblocks keep, and what a program of them keeps.
-use Rattle.std.specs.Prelude.{◌≡◌, ◌↔◌, ℕ, ◌<◌, Bool, true, false, ◌||◌, ◌&&◌, ◌==◌, nat_lt, List, length, Option, Some, None, slice_get}
-use Rattle.std.specs.List.{AllPairs, list_any}
+use Rattle.std.specs.Prelude.{◌≡◌, ◌↔◌, ℕ, ◌<◌, Bool, true, false, ◌||◌, ◌&&◌, ◌==◌, nat_lt, List, [], ◌∷◌, length, Option, Some, None, slice_get}
+use Rattle.std.specs.List.{list_any}
 use Rattle.wide_core.specs.declared.code.WideAct.{WideAct}
 use Rattle.wide_core.specs.declared.code.WideAct.TheVariants.{Do, Check, Jump, Branch, BranchZero, Call}
 use Rattle.wide_core.specs.declared.code.WideOp.{WideOp}
@@ -68,9 +68,14 @@ pub record IsSuperblockOf (funcs : List TacFunc) (all : List SuperblockCode) (b 
 abbrev pub stands_before : (a b : SuperblockCode) → Bool
 stands_before a b = nat_lt a.func b.func || ((a.func == b.func) && nat_lt a.head b.head)
 
+-- each stands before all later ones
+pub data InOrder : List SuperblockCode → Type 0 where
+  OrderedNone : InOrder []
+  OrderedBy : (b : SuperblockCode) (bs : List SuperblockCode) → Every (λ c. stands_before b c ≡ true) bs → InOrder bs → InOrder (b ∷ bs)
+
 -- each function's entry is a head, superblocks stand by function and rising head, and numbers rise over all of them
 pub record AreSuperblocks (funcs : List TacFunc) (all : List SuperblockCode) : Type 0 where
   pub entries : (f : ℕ) → f < length funcs → is_head all f 0 ≡ true
-  pub order : AllPairs (λ a b. stands_before a b ≡ true) all
+  pub order : InOrder all
   pub rises : Rises 0 (all_items all)
   pub each : Every (IsSuperblockOf funcs all) all

@@ -61,7 +61,7 @@ begins ((m ∷ ms) ∷ chains) c l ls e =
     later (suc c) e ne rest = rest c e
 
 -- a chain is found by its first label
-first_label : (chains : List Labels) (l m : ℕ) (ms : Labels) → chain_at chains l ≡ m ∷ ms → m ≡ l
+pub first_label : (chains : List Labels) (l m : ℕ) (ms : Labels) → chain_at chains l ≡ m ∷ ms → m ≡ l
 first_label [] l m ms e = cc
 first_label ([] ∷ chains) l m ms e = first_label chains l m ms e
 first_label ((k ∷ ks) ∷ chains) l m ms e =

@@ -1,8 +1,10 @@
 pub mod Acts
+pub mod Agreeing
+pub mod Calls
 pub mod Found
 pub mod Heads
-pub mod Calls
-pub mod Steps
-pub mod Agreeing
-pub mod Straight
+pub mod Kept
 pub mod Needs
+pub mod Order
+pub mod Steps
+pub mod Straight

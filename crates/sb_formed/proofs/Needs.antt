@@ -1,16 +1,13 @@
 -- What a chain needs is live where it begins.
-use Rattle.std.proofs.Common.{◌≡◌, ◌≢◌, ◌↔◌, ℕ, zero, suc, ◌<◌, Bool, true, false, ◌||◌, ◌&&◌, not, ◌⊎◌, inl, inr, List, [], ◌∷◌, ◌++◌, length, Option, Some, None, map, refl, sym, ap, ◌∙◌, subst, ⊎_elim, arith, if◌then◌else◌}
-use Rattle.std.specs.Prelude.{slice_get, slice_index_or, ◌==◌}
-use Rattle.std.specs.List.{All, Contains}
+use Rattle.std.proofs.Common.{◌≡◌, ◌≢◌, ℕ, suc, Bool, true, false, ◌||◌, ◌&&◌, not, ◌⊎◌, inl, inr, List, [], ◌∷◌, ◌++◌, Option, Some, None, map, refl, sym, ap, ◌∙◌, subst, ⊎_elim, arith, if◌then◌else◌}
+use Rattle.std.specs.Prelude.{slice_get, ◌==◌}
+use Rattle.std.specs.List.{Contains}
 use Rattle.std.proofs.lemmas.Bool.{eq-eqb, eqb-true}
-use Rattle.std.proofs.lemmas.Bool.Decides.{eqb_tells}
 use Rattle.std.proofs.lemmas.List.Elements.{All-nil, All-cons}
 use Rattle.ib_meaning.specs.declared.place.Place.{Place}
-use Rattle.ib_act.specs.declared.act.Act.{Act}
 use Rattle.ib_act.specs.Acts.{target, first_source, second_source}
 use Rattle.wide_core.specs.declared.code.WideAct.{WideAct}
-use Rattle.wide_core.specs.declared.code.WideAct.TheVariants.{Do, Jump, Branch, BranchZero, Call, Return}
-use Rattle.wide_core.specs.Flat.{at_exits}
+use Rattle.wide_core.specs.declared.code.WideAct.TheVariants.{Do, Branch, BranchZero, Call}
 use Rattle.wide_core.specs.Operation.{reg_of}
 use Rattle.wide_core.specs.Uses.{opt_list, reads, in_list, is_target, is_result, written}
 use Rattle.wide_core.proofs.Both.{both_first, both_second}
@@ -20,11 +17,11 @@ use Rattle.tac_core.specs.declared.code.End.TheVariants.{Jump as TacJump, Branch
 use Rattle.tac_core.specs.declared.code.Block.{Block}
 use Rattle.tac_core.specs.declared.code.TacFunc.{TacFunc}
 use Rattle.tac_core.specs.Counts.{IsTargetOf}
-use Rattle.tac_core.specs.Live.{Reads, EndReads, EndWrites, UsedIn, AtFirst, Later, Passes, IsLive, UsedInside, UsedAtEnd, UsedBehind}
+use Rattle.tac_core.specs.Live.{EndReads, EndWrites, UsedIn, AtFirst, Later, Passes, IsLive, UsedInside, UsedAtEnd, UsedBehind}
 use Rattle.tac_core.specs.Traces.{Labels, StaysIn}
 use Rattle.sb_order.specs.Superblock.{needs}
 use Rattle.sb_core.specs.Facts.{TellsLive}
-use Rattle.sb_formed.specs.Formed.{Draft, first_of, op_draft, end_acts, end_drafts, chain_drafts, block_drafts, item, numbered, next_number}
+use Rattle.sb_formed.specs.Formed.{Draft, op_draft, end_acts, end_drafts, chain_drafts, block_drafts, numbered, next_number}
 use Rattle.sb_formed.proofs.Heads.{IsFormed, AtPlace, linked, straight, next_place}
 
 or_cases : (a b : Bool) → (a || b) ≡ true → (a ≡ true) ⊎ (b ≡ true)

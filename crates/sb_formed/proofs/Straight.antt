@@ -1,13 +1,11 @@
 -- What holds of each act of a chain, its numbers, and its last item.
-use Rattle.std.proofs.Common.{◌≡◌, ◌≢◌, ℕ, zero, suc, ◌<◌, ◌≤◌, Bool, true, false, ◌⊎◌, inl, inr, List, [], ◌∷◌, ◌++◌, Option, Some, None, map, refl, sym, ap, ◌∙◌, subst, ⊎_elim, arith, if◌then◌else◌}
-use Rattle.std.specs.Prelude.{slice_get, ◌==◌}
-use Rattle.std.proofs.lemmas.Bool.Decides.{eqb_tells}
+use Rattle.std.proofs.Common.{◌≡◌, ℕ, suc, ◌<◌, ◌≤◌, Bool, true, false, List, [], ◌∷◌, ◌++◌, Option, Some, None, map, refl, sym, subst, arith, if◌then◌else◌}
+use Rattle.std.specs.Prelude.{◌==◌}
 use Rattle.ib_meaning.specs.declared.place.Place.{Place}
-use Rattle.wide_core.specs.declared.code.Loc.{Loc}
 use Rattle.wide_core.specs.declared.code.WideAct.{WideAct}
 use Rattle.wide_core.specs.declared.code.WideAct.TheVariants.{Do, Jump, Branch, BranchZero, Call, Return}
 use Rattle.wide_core.specs.declared.code.WideOp.{WideOp}
-use Rattle.wide_core.specs.Classes.{ends, traps}
+use Rattle.wide_core.specs.Classes.{traps}
 use Rattle.wide_core.specs.Every.{Every, Nil, Cons}
 use Rattle.wide_core.specs.Operation.{reg_of}
 use Rattle.tac_core.specs.declared.code.TacOp.{TacOp}
@@ -15,16 +13,16 @@ use Rattle.tac_core.specs.declared.code.End.{End}
 use Rattle.tac_core.specs.declared.code.End.TheVariants.{Jump as TacJump, Branch as TacBranch, Call as TacCall, Ret}
 use Rattle.tac_core.specs.declared.code.Block.{Block}
 use Rattle.tac_core.specs.declared.code.TacFunc.{TacFunc}
-use Rattle.tac_core.specs.Counts.{IsTargetOf}
-use Rattle.tac_core.specs.Rules.{IsGoodOp, IsGoodEnd, IsTarget}
+use Rattle.tac_core.specs.Rules.{IsGoodOp}
 use Rattle.tac_core.specs.Traces.{Labels, StaysIn}
 use Rattle.sb_order.specs.Superblock.{Rises, RisesNot, RisesBy, last_number}
 use Rattle.sb_order.specs.Order.{EndsLast, TheLast, NotLast}
 use Rattle.sb_core.specs.Facts.{is_source}
-use Rattle.sb_core.specs.Program.{SuperblockCode, all_items}
+use Rattle.sb_core.specs.Program.{all_items}
 use Rattle.sb_formed.specs.Formed.{Draft, Drafted, first_of, op_draft, end_acts, end_drafts, chain_drafts, block_drafts, item, numbered, next_number, number_behind, all_numbered}
 use Rattle.sb_formed.proofs.Calls.{every_of}
-use Rattle.sb_formed.proofs.Heads.{IsFormed, AtPlace, IsHead, good_block, leads, linked, straight, next_place}
+use Rattle.sb_formed.proofs.Order.{every_append}
+use Rattle.sb_formed.proofs.Heads.{IsFormed, AtPlace, good_block, straight, next_place}
 
 -- ---- numbers
 
@@ -75,10 +73,6 @@ numbered_each : (P : WideAct → Type 0) (n : ℕ) (ds : List Draft) → Every (
 numbered_each P n [] Nil = Nil
 numbered_each P n (d ∷ ds) (Cons _ _ h each) =
     Cons (item n d) (numbered (next_number n d.act) ds) h (numbered_each P (next_number n d.act) ds each)
-
-every_append : {A : Type 0} (P : A → Type 0) (xs ys : List A) → Every P xs → Every P ys → Every P (xs ++ ys)
-every_append P [] ys Nil h = h
-every_append P (x ∷ xs) ys (Cons _ _ g each) h = Cons x (xs ++ ys) g (every_append P xs ys each h)
 
 module _ (funcs : List TacFunc) (homes : List Place) (places : ℕ) (f : TacFunc) (chains : List Labels) (formed : IsFormed funcs places f chains) where
   module _ (P : WideAct → Type 0) (of_ops : (op : TacOp) → IsGoodOp f.regs places op → P (Do op.act)) (of_ends : (label : ℕ) (b : Block) (more : Labels) → AtPlace f chains label b more → Every P (end_acts b.«end» (first_of more))) where

@@ -1,0 +1,5 @@
+//! From the typed tree to structured code.
+#![tactic(auto)]
+
+mod addresses;
+mod operands;

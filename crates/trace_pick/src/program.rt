@@ -12,11 +12,7 @@ use std::alloc::{AllocError, Global};
 use tac_core::{Chain, Counts, FuncCounts, TacFunc, TacProgram, Traces};
 
 /// The traces of a function.
-fn pick_func(
-    alloc: Global,
-    func: &TacFunc,
-    counts: &FuncCounts,
-) -> Result<Items<Chain>, AllocError>
+fn pick_func(alloc: Global, func: &TacFunc, counts: &FuncCounts) -> Result<Items<Chain>, AllocError>
     requires counts { AreCounts counts.now }
     requires there { HasEdges func.now counts.now.edges }
     requires fit { IsFit func.now }

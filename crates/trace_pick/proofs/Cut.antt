@@ -1,16 +1,15 @@
 -- Label by label all cycles are cut, and all blocks get their sums.
-use Rattle.std.proofs.Common.{◌≡◌, ◌≢◌, ◌⊎◌, inl, inr, ◌+◌, ◌<◌, ◌≤◌, ℕ, zero, suc, List, [], ◌∷◌, Option, Some, None, Bool, true, false, length, replicate, refl, sym, ap, ◌∙◌, subst, ⊎_elim, arith}
-use Rattle.std.specs.Prelude.{slice_get, slice_set, slice_index_or}
+use Rattle.std.proofs.Common.{◌≡◌, ◌+◌, ◌<◌, ◌≤◌, ℕ, zero, suc, List, Option, Some, None, Bool, false, length, replicate, refl, sym, ◌∙◌, subst, ⊎_elim, arith}
+use Rattle.std.specs.Prelude.{slice_set}
 use Rattle.std.proofs.lemmas.Bool.{cases_lt}
 use Rattle.std.proofs.lemmas.Option.{slice_get_within}
 use Rattle.tac_core.specs.declared.code.Block.{Block}
 use Rattle.tac_core.specs.declared.code.TacFunc.{TacFunc}
 use Rattle.tac_core.specs.declared.counts.FuncCounts.{FuncCounts}
-use Rattle.tac_core.specs.Traces.{ops_of, ops_at}
 use Rattle.tac_core.specs.Weights.{AreByLabel, in_weight}
-use Rattle.trace_pick.specs.Best.{IsMutuallyBest, Reaches, Follows}
-use Rattle.trace_pick.specs.Tables.{IsTable, sum_at, IsSummed, AreSums, AreFewOps, AreLow}
-use Rattle.trace_pick.specs.Settled.{label_at, AreInside, IsSeen, AreSeenBack, CanWalkBack, IsStartOf, IsSettled, IsKept, AreSettled, CanSettle, IsSettling, IsKnown, AreSettledUpto, AreCut}
+use Rattle.trace_pick.specs.Best.{IsMutuallyBest, Reaches}
+use Rattle.trace_pick.specs.Tables.{IsTable, sum_at, AreLow}
+use Rattle.trace_pick.specs.Settled.{AreInside, IsSeen, CanWalkBack, IsStartOf, IsSettled, IsKept, CanSettle, IsSettling, IsKnown, AreSettledUpto, AreCut}
 use Rattle.trace_pick.proofs.Linked.{table_same, many_same}
 use Rattle.trace_pick.proofs.Settling.{settled_on, ops_some}
 use Rattle.trace_pick.proofs.WalkedBack.{at_some}

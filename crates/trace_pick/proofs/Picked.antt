@@ -1,7 +1,6 @@
 -- Function by function the traces of a program.
-use Rattle.std.proofs.Common.{◌≡◌, ◌⊎◌, ◌+◌, ◌++◌, ◌<◌, ◌≤◌, ℕ, List, [], ◌∷◌, Option, Some, None, length, get_or, refl, sym, ap, ◌∙◌, subst, ⊎_elim, arith, length-append}
+use Rattle.std.proofs.Common.{◌≡◌, ◌+◌, ◌++◌, ◌<◌, ◌≤◌, ℕ, List, [], ◌∷◌, Option, Some, None, length, get_or, refl, sym, ap, ◌∙◌, subst, ⊎_elim, arith, length-append}
 use Rattle.std.specs.Prelude.{slice_get}
-use Rattle.std.proofs.lemmas.Bool.{cases_lt}
 use Rattle.std.proofs.lemmas.Option.{slice_get_within, slice_get-get_or, get_or_from_slice_get}
 use Rattle.tac_core.specs.declared.code.End.{End}
 use Rattle.tac_core.specs.declared.code.End.TheVariants.{Jump, Branch, Call, Ret}
@@ -13,10 +12,10 @@ use Rattle.tac_core.specs.Counts.{IsTargetOf, LeadsTo, HasEdge, HasEdges, AreOfF
 use Rattle.tac_core.specs.Program.{Program}
 use Rattle.tac_core.specs.Rules.{IsGoodEnd, IsGoodBlock, IsGoodFunc, IsValid}
 use Rattle.tac_core.specs.Traces.{Labels, AreChains, AreChainsOf, ops_of}
-use Rattle.tac_core.proofs.Lists.{All-get, slice_get_front}
-use Rattle.trace_pick.specs.Best.{IsMutuallyBest, Follows}
+use Rattle.tac_core.proofs.Lists.{All-get}
+use Rattle.trace_pick.specs.Best.{IsMutuallyBest}
 use Rattle.trace_pick.specs.Settled.{IsKnown, AreCut}
-use Rattle.trace_pick.specs.Tables.{IsTable, AreLinks, AreWithin, AreFewOps, IsFit, AreTracesUpto, behind, begins, AreWalks, Rise}
+use Rattle.trace_pick.specs.Tables.{IsTable, AreLinks, AreWithin, IsFit, AreTracesUpto, behind, begins, AreWalks, Rise}
 use Rattle.trace_pick.specs.Traces.{AreTraces, AreTracesOf}
 use Rattle.trace_pick.proofs.Chained.{taken_edge, traces_are_chains}
 use Rattle.trace_pick.proofs.Grown.{IsPushed, Before, Last, pushed_at}

@@ -1,19 +1,17 @@
 -- A walk along best edges gives each block its sum.
 use Rattle.std.proofs.Common.{◌≡◌, ◌≢◌, ◌⊎◌, inl, inr, ◌+◌, ◌<◌, ◌≤◌, ℕ, zero, suc, List, [], ◌∷◌, Option, Some, None, Bool, true, false, length, refl, sym, ap, ◌∙◌, subst, ⊎_elim, arith, if◌then◌else◌}
-use Rattle.std.specs.Prelude.{slice_get, slice_set, slice_index_or, nat_le, ◌==◌, ◌↔◌}
+use Rattle.std.specs.Prelude.{slice_get, slice_set, nat_le, ◌==◌, ◌↔◌}
 use Rattle.std.specs.List.{sum_by}
-use Rattle.std.proofs.lemmas.Bool.{cases_lt}
 use Rattle.std.proofs.lemmas.Bool.Decides.{eqb_tells, nat_tests}
 use Rattle.std.proofs.lemmas.List.{get_or-set_same, get_or-set_other, length-set}
 use Rattle.std.proofs.lemmas.List.Sums.{sum_by-set}
-use Rattle.std.proofs.lemmas.Option.{slice_get_within}
 use Rattle.tac_core.specs.declared.code.Block.{Block}
 use Rattle.tac_core.specs.declared.code.TacFunc.{TacFunc}
 use Rattle.tac_core.specs.declared.counts.FuncCounts.{FuncCounts}
 use Rattle.tac_core.specs.Traces.{ops_of, ops_at}
-use Rattle.trace_pick.specs.Best.{IsMutuallyBest, Reaches, AtOnce, Further, IsOnCycle, IsCutBefore, Follows}
-use Rattle.trace_pick.specs.Tables.{IsTable, sum_at, IsJoined, Begins, IsSummed, First, Behind, AreSums, has_room, AreFewOps, AreLow}
-use Rattle.trace_pick.specs.Settled.{IsStart, told, label_at, IsSettled, IsKept, AreSettled, sum_behind, unsettled_by, unsettled_behind, CanSettle, IsSettling, IsSettlingAt}
+use Rattle.trace_pick.specs.Best.{IsMutuallyBest, Reaches, AtOnce, Further, Follows}
+use Rattle.trace_pick.specs.Tables.{sum_at, IsJoined, IsSummed, First, Behind, has_room, AreFewOps, AreLow}
+use Rattle.trace_pick.specs.Settled.{told, label_at, IsSettled, IsKept, AreSettled, sum_behind, unsettled_by, unsettled_behind, CanSettle, IsSettling, IsSettlingAt}
 use Rattle.trace_pick.proofs.Alone.{one_in, one_out, same_number}
 use Rattle.trace_pick.proofs.WalkedBack.{at_some}
 use Rattle.trace_pick.proofs.Linked.{set_same, set_other, table_same}

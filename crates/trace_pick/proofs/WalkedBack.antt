@@ -1,18 +1,17 @@
 -- A walk back along best edges finds where a walk forth may begin.
-use Rattle.std.proofs.Common.{◌≡◌, ◌≢◌, ◌⊎◌, inl, inr, ◌+◌, ◌<◌, ℕ, zero, suc, List, [], ◌∷◌, Option, Some, None, Bool, true, false, length, refl, sym, ap, ◌∙◌, subst, ⊎_elim, arith, if◌then◌else◌, ◌&&◌, ◌||◌}
+use Rattle.std.proofs.Common.{◌≡◌, ◌⊎◌, inl, inr, ◌+◌, ◌<◌, ℕ, zero, suc, List, [], ◌∷◌, Option, Some, None, Bool, true, false, length, refl, sym, ap, ◌∙◌, subst, ⊎_elim, arith, if◌then◌else◌, ◌&&◌, ◌||◌}
 use Rattle.std.specs.Prelude.{slice_get, slice_set, slice_index_or, nat_lt, ◌==◌}
 use Rattle.std.specs.List.{sum_by}
 use Rattle.std.proofs.lemmas.Bool.{cases_lt}
 use Rattle.std.proofs.lemmas.Bool.Decides.{eqb_tells, nat_tests}
 use Rattle.std.proofs.lemmas.List.{get_or-set_same, get_or-set_other}
 use Rattle.std.proofs.lemmas.List.Sums.{sum_by-set}
-use Rattle.std.proofs.lemmas.Option.{slice_get_within, get_or_from_slice_get}
+use Rattle.std.proofs.lemmas.Option.{get_or_from_slice_get}
 use Rattle.tac_core.specs.declared.code.TacFunc.{TacFunc}
 use Rattle.tac_core.specs.declared.counts.FuncCounts.{FuncCounts}
 use Rattle.tac_core.specs.Weights.{AreByLabel, in_weight}
-use Rattle.trace_pick.specs.Best.{IsMutuallyBest, Reaches, AtOnce, Further, IsOnCycle, GoesBefore, Greater, Lesser, IsCutBefore, Follows}
-use Rattle.trace_pick.specs.Tables.{IsTable}
-use Rattle.trace_pick.specs.Settled.{IsStart, told, label_at, IsSeen, AreSeenBack, weight_at, goes_before, earlier, unseen_by, unseen_before, CanWalkBack, IsPassed, IsWalkBack, IsStartOf}
+use Rattle.trace_pick.specs.Best.{IsMutuallyBest, Reaches, AtOnce, Further, IsOnCycle, GoesBefore, Greater, Lesser, IsCutBefore}
+use Rattle.trace_pick.specs.Settled.{told, label_at, IsSeen, AreSeenBack, weight_at, goes_before, earlier, unseen_by, unseen_before, CanWalkBack, IsWalkBack, IsStartOf}
 use Rattle.trace_pick.proofs.Alone.{one_in}
 use Rattle.trace_pick.proofs.Cycles.{reaches_through, reaches_next, reaches_cycle, reaches_again, before_trans, not_both_before}
 

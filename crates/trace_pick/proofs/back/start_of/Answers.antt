@@ -1,7 +1,7 @@
-use Rattle.std.proofs.Common.{◌≡◌, ◌<◌, ℕ, Some, true, length, sym, ap, ◌∙◌, subst}
+use Rattle.std.proofs.Common.{◌≡◌, ◌<◌, Some, true, length, sym, ap, ◌∙◌, subst}
 use Rattle.std.specs.List.{sum_by}
 use Rattle.std.proofs.lemmas.List.{length-set}
-use Rattle.trace_pick.specs.Settled.{label_at, unseen_before, earlier}
+use Rattle.trace_pick.specs.Settled.{unseen_before}
 use Rattle.trace_pick.proofs.WalkedBack.{unpassed, passed_falls, unseen_is, earlier_in, walk_back_begins, walk_back_more, walk_back_ends, walk_back_closes, not_some}
 use Rattle.trace_pick.proofs.back.start_of.Goals as goal
 

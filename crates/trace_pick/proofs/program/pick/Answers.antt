@@ -1,13 +1,16 @@
-use Rattle.std.proofs.Common.{◌≡◌, ◌+◌, ◌<◌, List, Some, length, refl, sym, ap, ◌∙◌, subst, arith}
+use Rattle.std.proofs.Common.{◌≡◌, ◌<◌, List, Some, length, refl, sym, ap, ◌∙◌, subst, arith}
 use Rattle.std.specs.Prelude.{slice_get}
 use Rattle.std.proofs.lemmas.Option.{slice_get_read}
 use Rattle.tac_core.specs.declared.code.TacFunc.{TacFunc}
 use Rattle.tac_core.specs.declared.counts.FuncCounts.{FuncCounts}
-use Rattle.tac_core.specs.Traces.{AreChainsOf}
-use Rattle.trace_pick.specs.Tables.{AreTracesUpto}
 use Rattle.trace_pick.specs.Traces.{AreTracesOf}
-use Rattle.trace_pick.proofs.Picked.{edges_there, valid_fit, upto_more, upto_done, traces_chained}
+use Rattle.trace_pick.proofs.Picked.{valid_fit, upto_more, upto_done, traces_chained}
 use Rattle.trace_pick.proofs.program.pick.Goals as goal
+
+pub pick_func-requires-clause-fit : goal.pick_func-requires-clause-fit
+pick_func-requires-clause-fit c =
+    let fi : slice_get c.funcs-funcs.result.now c.loop-i.i ≡ Some c.index-funcs-i.result = slice_get_read c.funcs-funcs.result.now _ c.loop-i.i c.index-funcs-i.result refl c.loop-i-test.true c.index-funcs-i.is in
+    valid_fit c.args.tac.now c.loop-i.i c.index-funcs-i.result c.funcs-funcs.ensures.valid (sym (ap (λ z. slice_get z c.loop-i.i) c.funcs-funcs.ensures.value) ∙ fi)
 
 pub loop-i-preserved : goal.loop-i-preserved
 loop-i-preserved c =

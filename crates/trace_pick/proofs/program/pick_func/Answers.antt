@@ -1,6 +1,5 @@
 use Rattle.std.proofs.Common.{ℕ, List, Option, length}
 use Rattle.tac_core.specs.declared.code.Block.{Block}
-use Rattle.trace_pick.specs.Settled.{IsKnown}
 use Rattle.trace_pick.specs.Tables.{behind, begins, AreWalks, Rise}
 use Rattle.trace_pick.proofs.Picked.{edges_within, is_known, best_tables, tables_rise, walks_picked, of_same, of_same_back}
 use Rattle.trace_pick.proofs.program.pick_func.Goals as goal

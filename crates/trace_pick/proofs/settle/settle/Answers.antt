@@ -1,8 +1,8 @@
-use Rattle.std.proofs.Common.{◌≡◌, ◌<◌, ◌≤◌, ℕ, Some, None, length, sym, ap, ◌∙◌, subst, arith}
+use Rattle.std.proofs.Common.{◌≡◌, ◌<◌, ◌≤◌, Some, None, length, sym, ap, ◌∙◌, subst}
 use Rattle.std.specs.Prelude.{slice_set}
 use Rattle.std.specs.List.{sum_by}
 use Rattle.std.proofs.lemmas.List.{length-set}
-use Rattle.trace_pick.specs.Settled.{label_at, sum_behind, unsettled_behind}
+use Rattle.trace_pick.specs.Settled.{sum_behind, unsettled_behind}
 use Rattle.trace_pick.specs.Tables.{AreLow}
 use Rattle.trace_pick.proofs.Settling.{unsummed, summed_falls, low_set, behind_low, behind_some, ops_some, unsettled_is, settle_begins, settle_more, settle_ends}
 use Rattle.trace_pick.proofs.WalkedBack.{not_some}

@@ -1,9 +1,8 @@
-use Rattle.std.proofs.Common.{◌≡◌, ◌+◌, ◌<◌, ◌≤◌, ℕ, List, Option, Some, None, Bool, true, false, length, sym, ap, ◌∙◌, subst, arith}
-use Rattle.std.specs.Prelude.{slice_set}
+use Rattle.std.proofs.Common.{◌≡◌, ◌+◌, ◌<◌, ◌≤◌, length, sym, ap, ◌∙◌, subst}
 use Rattle.tac_core.specs.Weights.{AreByLabel, in_weight}
 use Rattle.trace_pick.specs.Best.{IsMutuallyBest}
 use Rattle.trace_pick.specs.Tables.{IsTable, sum_at}
-use Rattle.trace_pick.specs.Settled.{label_at, CanWalkBack, IsStartOf, IsSettled, CanSettle, IsSettling, AreSettledUpto, AreCut}
+use Rattle.trace_pick.specs.Settled.{label_at, IsStartOf, IsSettled, AreSettledUpto}
 use Rattle.trace_pick.proofs.Cut.{inside_by, upto_none, upto_skip, upto_more, upto_all, can_walk_back, can_settle, not_zero}
 use Rattle.trace_pick.proofs.sums.sums_of.Goals as goal
 use Rattle.trace_pick.proofs.sums.sums_of.Goals.{then-sum_at-eq0, else-sum_at-eq0}

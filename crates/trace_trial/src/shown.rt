@@ -102,12 +102,7 @@ fn show_counted(rt: &HostRuntime, tac: &TacProgram, profile: &[u8]) -> io::Resul
 }
 
 /// Shows the traces and the duplicate of `main` of these blocks, by a profile.
-pub fn show_row(
-    rt: &HostRuntime,
-    title: &str,
-    blocks: &[Shape],
-    profile: &str,
-) -> io::Result<()> {
+pub fn show_row(rt: &HostRuntime, title: &str, blocks: &[Shape], profile: &str) -> io::Result<()> {
     println!(rt; "{title}")?;
     match program_of(rt.alloc(), blocks)? {
         Some(tac) => show_counted(rt, &tac, profile.as_bytes()),

@@ -47,16 +47,14 @@ fn show_measured(rt: &HostRuntime, what: &str, traces: &Traces, funcs: u32) -> i
 }
 
 fn show_formed(rt: &HostRuntime, formed: &Formed, funcs: u32) -> io::Result<()> {
-    println!(rt; "operations of the duplicate: {}", formed.copied().tac().ops())?;
+    println!(rt;
+        "operations of the duplicate: {}",
+        formed.copied().tac().ops()
+    )?;
     show_measured(rt, "chains of the duplicate", formed.traces(), funcs)
 }
 
-fn time_duplicate(
-    rt: &HostRuntime,
-    tac: &TacProgram,
-    traces: &Traces,
-    funcs: u32,
-) -> io::Result<()>
+fn time_duplicate(rt: &HostRuntime, tac: &TacProgram, traces: &Traces, funcs: u32) -> io::Result<()>
     requires { AreChainsOf tac.now.funcs traces.now }
 {
     show_measured(rt, "traces", traces, funcs)?;

@@ -8,3 +8,4 @@ pub mod Needs
 pub mod Order
 pub mod Steps
 pub mod Straight
+mod Worked

@@ -1,0 +1,4 @@
+pub mod ByLabel
+pub mod Copied
+pub mod Growing
+pub mod Whole

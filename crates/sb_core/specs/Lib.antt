@@ -1,3 +1,4 @@
+pub mod Chain
 pub mod Facts
 pub mod Meaning
 pub mod Program

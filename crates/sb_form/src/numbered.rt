@@ -1,12 +1,11 @@
 ghost use Rattle.std.specs.Prelude.{◌≡◌, ◌+◌, [], ◌∷◌, IfOk, OnOk};
 ghost use Rattle.sb_order.specs.Order.{InRange};
 ghost use Rattle.sb_form.specs.Growing.{Grown, taken};
-ghost use Rattle.wide_core.specs.Classes.{traps, traps_act};
 
 use ib_base::Place;
+use sb_core::traps;
 use sqlite_items::Items;
 use std::alloc::{AllocError, Global};
-use tac_core::Act;
 use wide_core::{WideAct, WideOp};
 
 /// Items that are numbered one after the other, and the number of the next.
@@ -14,24 +13,6 @@ use wide_core::{WideAct, WideOp};
 pub(crate) struct Numbered {
     pub items: Items<WideOp>,
     pub next: u32,
-}
-
-fn traps_act(act: Act) -> bool
-    ensures { result ≡ traps_act act }
-{
-    match act {
-        Act::Bounds { .. } | Act::Div { .. } | Act::Rem { .. } | Act::Load { .. } => true,
-        _ => false,
-    }
-}
-
-fn traps(act: &WideAct) -> bool
-    ensures { result ≡ traps act.now }
-{
-    match act {
-        WideAct::Do(act) => traps_act(*act),
-        _ => false,
-    }
 }
 
 /// How many numbers an operation takes: its own and, where it traps, that of its check.

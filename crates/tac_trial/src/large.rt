@@ -2,7 +2,7 @@ use crate::programs::func;
 use sqlite_items::Items;
 use std::alloc::{AllocError, Global};
 use std::fmt::Write;
-use tac_core::{Block, End, TacFunc};
+use tac_core::{Act, Block, End, TacFunc, TacOp};
 
 /// A block goes to one of the next two; the last two go back.
 fn block_at(alloc: Global, label: u32, blocks: u32) -> Block {
@@ -74,4 +74,18 @@ pub fn profile_of(alloc: Global, funcs: u32, blocks: u32) -> Result<String, Allo
     }
     text.push_str("end\n")?;
     Ok(text)
+}
+
+/// `main` of so many blocks, each of which reads a register of its own.
+pub fn main_of_registers(alloc: Global, blocks: u32) -> Result<TacFunc, AllocError> {
+    let mut list = Items::new(alloc);
+    for label in 0..blocks {
+        let mut block = block_at(alloc, label, blocks);
+        let act = Act::Mov { to: 0, from: label };
+        block.ops.push(TacOp { stmt: 0, act })?;
+        list.push(block)?;
+    }
+    let mut func = func(alloc, "main", list)?;
+    func.regs = blocks;
+    Ok(func)
 }

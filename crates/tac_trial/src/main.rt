@@ -80,6 +80,7 @@ fn main(rt: HostRuntime) -> io::Result<()> {
     timed::sizes(&rt, 1, 200_000)?;
     timed::sizes(&rt, 1_000, 200)?;
     timed::sizes(&rt, 100_000, 2)?;
+    timed::registers(&rt, 20_000)?;
     time_loop(&rt)?;
     time_calls(&rt)
 }

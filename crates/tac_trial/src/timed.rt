@@ -1,4 +1,4 @@
-use crate::large::{funcs_of, profile_of};
+use crate::large::{funcs_of, main_of_registers, profile_of};
 use crate::wrong;
 use ib_base::{MemHost, Outcome, Place};
 use profile::run_counting;
@@ -6,7 +6,8 @@ use profile_text::{print_profile, read_profile};
 use std::alloc::Global;
 use std::io;
 use std::time::Instant;
-use tac_core::{Counts, TacProgram};
+use tac_core::{Counts, TacFunc, TacProgram};
+use tac_live::live_in;
 
 const MOST_TEXT: usize = 33_554_432;
 
@@ -17,10 +18,9 @@ fn show(rt: &HostRuntime, what: &str, start: Instant) -> io::Result<()> {
     eprintln!(rt; "{what}: {} us", took.as_micros())
 }
 
-fn assembled(rt: &HostRuntime, funcs: u32, blocks: u32) -> io::Result<TacProgram> {
+fn assembled(rt: &HostRuntime, list: Vec<TacFunc>) -> io::Result<TacProgram> {
     let alloc = rt.alloc();
     let places = vec![in alloc; Place { line: 1, col: 1 }]?;
-    let list = funcs_of(alloc, funcs, blocks)?;
     let start = Instant::now(rt)?;
     let tac = TacProgram::assemble(Vec::new(alloc), places, list);
     show(rt, "assemble", start)?;
@@ -96,7 +96,29 @@ fn reads_back(rt: &HostRuntime, tac: &TacProgram, funcs: u32, blocks: u32) -> io
 
 /// Times the calls on a program of so many functions, each of so many blocks.
 pub fn sizes(rt: &HostRuntime, funcs: u32, blocks: u32) -> io::Result<()> {
-    let tac = assembled(rt, funcs, blocks)?;
+    let tac = assembled(rt, funcs_of(rt.alloc(), funcs, blocks)?)?;
     reads_back(rt, &tac, funcs, blocks)?;
+    live(rt, &tac)?;
     steps(rt, "all blocks in turn", &tac)
+}
+
+/// Times the live sets of a program, and shows one of them.
+fn live(rt: &HostRuntime, tac: &TacProgram) -> io::Result<()> {
+    let start = Instant::now(rt)?;
+    let sets = live_in(rt.alloc(), tac)?;
+    show(rt, "live_in", start)?;
+    println!(rt;
+        "live at the entry: register 0 {}, register 1 {}",
+        sets.at(0, 0, 0),
+        sets.at(0, 0, 1)
+    )
+}
+
+/// Times the live sets of a function of so many blocks and registers.
+pub fn registers(rt: &HostRuntime, blocks: u32) -> io::Result<()> {
+    let mut list = Vec::new(rt.alloc());
+    list.push(main_of_registers(rt.alloc(), blocks)?)?;
+    let tac = assembled(rt, list)?;
+    println!(rt; "blocks and registers {blocks}")?;
+    live(rt, &tac)
 }

@@ -43,6 +43,9 @@ abbrev mutual
 abbrev pub boxed_of : Box Code Global → plain.Code
 boxed_of code = code_of code.value
 
+abbrev pub boxed_test_of : Box Test Global → plain.Test
+boxed_test_of test = test_of test.value
+
 -- one after the other, and then the last
 abbrev pub nested : List plain.Code → plain.Code → plain.Code
 nested [] last = last

@@ -11,4 +11,4 @@ pub use assigned::Update;
 pub use code::{Code, Exit, Test};
 pub use empty::{row, some_code};
 pub use operators::{bound, cut, given_by, narrows, operated, scaled, scaled_in, sign};
-pub use parts::{behind, both, boxed, does, moved, number};
+pub use parts::{behind, both, boxed, boxed_test, does, moved, number};

@@ -4,7 +4,7 @@ ghost use Rattle.tac_lowered.specs.Code.{◌⨾◌};
 ghost use Rattle.tac_lowered.specs.Operators as o;
 ghost use Rattle.tac_code.specs.Views.{boxed_of, code_of};
 
-use crate::code::Code;
+use crate::code::{Code, Test};
 use ib_act::Act;
 use std::alloc::{AllocError, Global};
 
@@ -12,6 +12,12 @@ pub fn boxed(alloc: Global, code: Code) -> Result<Box<Code>, AllocError>
     ensures { IfOk result (λ made. made.value ≡ code) }
 {
     Ok(Box::new(alloc, code)?)
+}
+
+pub fn boxed_test(alloc: Global, test: Test) -> Result<Box<Test>, AllocError>
+    ensures { IfOk result (λ made. made.value ≡ test) }
+{
+    Ok(Box::new(alloc, test)?)
 }
 
 /// One operation.

@@ -1,3 +1,4 @@
 pub mod Elements
 pub mod Holding
+pub mod Lists
 pub mod Rows

@@ -47,5 +47,8 @@ comma_weight e list v b is same = let e1 = ap weight (comma_tree e list b.value 
 pub last_weight : (e a : Expr) (v : Vec Expr Global) (b : Box Expr Global) → e ≡ Comma v b → a ≡ b.value → weight (expr_of a) < weight (expr_of e)
 last_weight e a v b is at = let e1 = ap weight (comma_tree e v.items a v b is refl at) in omega (arith, e1)
 
+pub comma_weighs : (e : Expr) (list : List Expr) (a : Expr) (v : Vec Expr Global) (b : Box Expr Global) → e ≡ Comma v b → list ≡ v.items → a ≡ b.value → weights (list_exps list) + weight (expr_of a) < weight (expr_of e)
+comma_weighs e list a v b is same at = let e1 = ap weight (comma_tree e list a v b is same at) in omega (arith, e1)
+
 pub block_weight : (e : Stmt) (list : List Stmt) (v : Vec Stmt Global) → e ≡ Block v → list ≡ v.items → weight_stms (stms (map stmt_of list)) < weight_stm (stmt_of e)
 block_weight e list v is same = let e1 = ap weight_stm (block_tree e list v is same) in omega (arith, e1)

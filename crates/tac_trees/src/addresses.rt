@@ -25,13 +25,24 @@ pub(crate) struct Array {
 
 /// Where code stands: its statement's number, the register that its value is wanted in, and the first that is free.
 #[derive(Clone, Copy)]
-pub(crate) struct At {
+pub struct At {
     pub stmt: u32,
     pub to: Option<u32>,
     pub free: u32,
 }
 
 impl At {
+    /// Where no value is wanted.
+    pub fn effect(stmt: u32, free: u32) -> At
+        ensures { result ≡ record { stmt = stmt; to = None; free = free } }
+    {
+        At {
+            stmt,
+            to: None,
+            free,
+        }
+    }
+
     /// The register that is wanted, or the first that is free.
     pub(crate) fn target(self) -> u32
         ensures { result ≡ o.or_else self.to self.free }

@@ -2,4 +2,10 @@
 #![tactic(auto)]
 
 mod addresses;
+mod expressions;
+mod joins;
 mod operands;
+
+pub use addresses::At;
+pub use expressions::{effects, low, operand, tested};
+pub use joins::Operand;

@@ -1,4 +1,4 @@
-ghost use Rattle.std.specs.Prelude.{◌≡◌, map, true};
+ghost use Rattle.std.specs.Prelude.{◌≡◌, map, true, IfOk};
 ghost use Rattle.c_typed.specs.Tree.{exps};
 ghost use Rattle.c_typed.specs.Views.{expr_of};
 ghost use Rattle.tac_lowered.specs.Expressions as e;
@@ -7,7 +7,8 @@ ghost use Rattle.tac_trees.specs.Operands.{own_slot, Held};
 use c_typed::Expr;
 use c_values::{ranked, width_of};
 use ib_base::Width;
-use tac_code::given_by;
+use std::alloc::AllocError;
+use tac_code::{behind, given_by};
 
 /// Whether an expression sets no slot.
 #[cycle(quiet)]
@@ -130,4 +131,14 @@ pub(crate) fn own_slot(is_kept: bool, expr: &Expr) -> Option<u32>
     ensures held { Held result is_kept (expr_of expr.now) }
 {
     if is_kept { slot_of(expr) } else { None }
+}
+
+/// The first register that is free behind an operand.
+pub(crate) fn behind_operand(is_kept: bool, expr: &Expr, register: u32) -> Result<u32, AllocError>
+    ensures { IfOk result (λ free. free ≡ e.behind_operand is_kept (expr_of expr.now) register) }
+{
+    match own_slot(is_kept, expr) {
+        Some(_) => Ok(register),
+        None => behind(register, 1),
+    }
 }

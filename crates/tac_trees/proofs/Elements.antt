@@ -1,11 +1,10 @@
 -- An element of an array that begins at 0.
-use Rattle.std.proofs.Common.{◌≡◌, ℕ, ℤ, pos, ◌+ℤ◌, ap, refl, ◌∙◌, Bool, true, false, Option, Some, None, Result, Ok, Err, arith}
+use Rattle.std.proofs.Common.{◌≡◌, ℕ, ℤ, pos, ◌+ℤ◌, ap, refl, ◌∙◌, Bool, true, false, Some, None, Ok, Err, arith}
 use Rattle.std.specs.Prelude.{if◌then◌else◌}
 use Rattle.std.specs.Result.{result_ok}
 use Rattle.std.proofs.lemmas.Int.{ints}
 use Rattle.ib_base.specs.declared.integers.Width.TheVariants.{W8}
 use Rattle.ib_base.specs.Integers.{wrapped}
-use Rattle.ib_meaning.specs.declared.fault.FaultKind.{FaultKind}
 use Rattle.ib_meaning.specs.declared.fault.FaultKind.TheVariants.{Bounds}
 use Rattle.c_typed.specs.declared.expr.Reach.{Reach}
 use Rattle.c_typed.specs.Values.{further, scaled, in_bounds, element}

@@ -1,5 +1,5 @@
 -- The lists in trees, seen as lists.
-use Rattle.std.proofs.Common.{◌≡◌, ℕ, ◌+◌, ◌*◌, ◌<◌, List, map, ap, sym, ◌∙◌, refl, rules, arith, Vec, Box, Global}
+use Rattle.std.proofs.Common.{◌≡◌, ◌+◌, ◌<◌, List, map, ap, sym, ◌∙◌, refl, rules, arith, Vec, Box, Global}
 use Rattle.c_typed.specs.declared.types.ValueType.{ValueType}
 use Rattle.c_typed.specs.declared.expr.Expr.{Expr, Call, Comma, Row_of-Expr, end_of-Expr, more_of-Expr, items-the_row-Expr, the_lemmas}
 use Rattle.c_typed.specs.declared.stmt.Stmt.{Stmt, Block, Row_of-Stmt, end_of-Stmt, more_of-Stmt, items-the_row-Stmt, the_lemmas as stmt_lemmas}

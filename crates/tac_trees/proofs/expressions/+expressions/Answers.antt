@@ -1,4 +1,4 @@
-use Rattle.std.proofs.Common.{◌≡◌, ◌∙◌, ap, sym, subst, refl, length, map, take, IfOk, None, arith}
+use Rattle.std.proofs.Common.{◌≡◌, ◌∙◌, ap, sym, subst, refl, map, take, IfOk, arith}
 use Rattle.std.proofs.lemmas.List.{take_all}
 use Rattle.c_typed.specs.Tree as tree
 use Rattle.c_typed.specs.Views.{expr_of, list_exps}

@@ -1,4 +1,4 @@
-use Rattle.std.proofs.Common.{◌≡◌, ◌∙◌, ap, sym, refl, Bool, true, false}
+use Rattle.std.proofs.Common.{◌≡◌, ◌∙◌, ap, sym, refl, true, false}
 use Rattle.std.specs.Prelude.{◌&&◌}
 use Rattle.c_typed.specs.Views.{expr_of, list_exps}
 use Rattle.tac_lowered.specs.Expressions.{is_quiet, are_quiet}

@@ -1,7 +1,7 @@
 -- Lists of statements.
 use Rattle.std.proofs.Common.{◌≡◌, ℕ, zero, suc, get_or, ◌+◌, ◌<◌, ◌≤◌, List, [], ◌∷◌, ◌++◌, length, map, ap, sym, ◌∙◌, refl, arith, Vec, Global}
 use Rattle.c_typed.specs.declared.stmt.Stmt.{Stmt, Block}
-use Rattle.c_typed.specs.Tree.{stms, block}
+use Rattle.c_typed.specs.Tree.{stms}
 use Rattle.c_typed.specs.Program.{Program}
 use Rattle.c_typed.specs.Views.{stmt_of}
 use Rattle.c_kept.specs.Weights.{weight_stm, weight_stms}

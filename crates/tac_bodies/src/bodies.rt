@@ -17,7 +17,13 @@ use tac_code::{Code, both, boxed, does};
 use tac_core::number_at;
 
 /// Moves a parameter from the register that it comes in into the frame, if it lives there.
-fn stored(alloc: Global, program: &Program, param: Param, register: u32, free: u32) -> Result<Box<Code>, AllocError>
+fn stored(
+    alloc: Global,
+    program: &Program,
+    param: Param,
+    register: u32,
+    free: u32,
+) -> Result<Box<Code>, AllocError>
     ensures { IfOk result (λ made. boxed_of made ≡ l.stored (c.program program.now) param.ty param.home register free) }
 {
     match param.home {
@@ -27,14 +33,29 @@ fn stored(alloc: Global, program: &Program, param: Param, register: u32, free: u
             let offset = i64::try_from(offset).ok().ok_or(AllocError)?;
             let address = does(alloc, stmt, Act::FrameAddress { to: free, offset })?;
             let width = width_of(param.ty);
-            let store = does(alloc, stmt, Act::Store { width, base: free, offset: 0, from: register })?;
+            let store = does(
+                alloc,
+                stmt,
+                Act::Store {
+                    width,
+                    base: free,
+                    offset: 0,
+                    from: register,
+                },
+            )?;
             both(alloc, address, store)
         }
     }
 }
 
 /// The same of all parameters. A function has few.
-fn all_stored(alloc: Global, program: &Program, params: &[Param], register: u32, free: u32) -> Result<Box<Code>, AllocError>
+fn all_stored(
+    alloc: Global,
+    program: &Program,
+    params: &[Param],
+    register: u32,
+    free: u32,
+) -> Result<Box<Code>, AllocError>
     ensures { IfOk result (λ made. boxed_of made ≡ l.all_stored (c.program program.now) params.now register free) }
 {
     match first_param(params) {
@@ -49,7 +70,11 @@ fn all_stored(alloc: Global, program: &Program, params: &[Param], register: u32,
 }
 
 /// The code of a function's body, its parameters first.
-pub fn body_of(alloc: Global, program: &Program, function: &Function) -> Result<Box<Code>, AllocError>
+pub fn body_of(
+    alloc: Global,
+    program: &Program,
+    function: &Function,
+) -> Result<Box<Code>, AllocError>
     ensures { IfOk result (λ made. boxed_of made ≡ l.body_of (c.program program.now) (function_of function.now)) }
 {
     let free = free_in(function)?;

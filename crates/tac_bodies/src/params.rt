@@ -48,7 +48,7 @@ fn behind_params(params: &[Param], register: u32) -> Result<u32, AllocError>
 
 /// The first register that is free in a function's body.
 pub fn free_in(function: &Function) -> Result<u32, AllocError>
-    ensures { IfOk result (λ free. free ≡ l.free_in (function_of function.now)) }
+    ensures { IfOk result (λ free. free ≡ l.behind_params (function_of function.now).params function.now.slots) }
 {
     behind_params(&function.params, function.slots)
 }
@@ -68,7 +68,7 @@ fn push_params(params: &[Param], register: u32, into: &mut Vec<u32>) -> Result<(
 
 /// The registers that a function's parameters come in.
 pub fn params_in(alloc: Global, function: &Function) -> Result<Vec<u32>, AllocError>
-    ensures { IfOk result (λ made. made.items ≡ l.params_in (function_of function.now).params (function_of function.now).slots) }
+    ensures { IfOk result (λ made. made.items ≡ l.params_in (function_of function.now).params function.now.slots) }
 {
     let mut registers = Vec::new(alloc);
     push_params(&function.params, function.slots, &mut registers)?;

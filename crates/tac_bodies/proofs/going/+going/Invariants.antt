@@ -1,4 +1,4 @@
-use Rattle.std.proofs.Common.{◌≡◌, ◌+◌, ◌*◌, map, drop}
+use Rattle.std.proofs.Common.{◌≡◌, ◌+◌, ◌*◌, ◌≤◌, map, drop}
 use Rattle.c_typed.specs.Tree.{stms}
 use Rattle.c_typed.specs.Views.{stmt_of}
 use Rattle.c_kept.specs.Weights.{weight_stm, weight_stms}
@@ -12,4 +12,7 @@ abbrev pub decreases-go_on : goal.decreases-go_on
 decreases-go_on l = 2 * weight_stms (stms (map stmt_of l.list.now)) + 1
 
 abbrev pub invariant-go_on-loop-stmt : goal.invariant-go_on-loop-stmt
-invariant-go_on-loop-stmt l = go_on (stms (map stmt_of l.list)) ≡ go_on (stms (map stmt_of (drop l.stmt-index l.list)))
+invariant-go_on-loop-stmt l = let left = stms (map stmt_of (drop l.stmt-index l.list)) in let all = stms (map stmt_of l.list) in record {
+  same : go_on all ≡ go_on left;
+  fewer : weight_stms left ≤ weight_stms all;
+}

@@ -1,0 +1,12 @@
+//! The words of a call, and the command that they ask for.
+#![tactic(auto)]
+
+mod arguments;
+mod file_name;
+mod part;
+mod reader;
+mod words;
+
+pub use file_name::FileName;
+pub use part::Part;
+pub use words::{Command, WordsErr, read_words};

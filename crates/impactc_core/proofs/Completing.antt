@@ -1,94 +1,116 @@
 -- What can be done is done, where memory and the host allow it.
-use Rattle.std.proofs.Common.{◌≡◌, ◌⊎◌, inl, inr, ℕ, List, Option, Some, None, refl, sym, ◌∙◌, subst}
+use Rattle.std.proofs.Common.{◌≡◌, ◌⊎◌, inl, inr, ℕ, List, Option, Some, None, Result, Ok, Err, refl, sym, ap, ◌∙◌, subst}
 use Rattle.std.specs.Prelude.{IsSomeAnd, IfSome}
 use Rattle.std.specs.FinMap.{get}
 use Rattle.ib_meaning.proofs.Facts.{some_same}
 use Rattle.ib_base.specs.World.{World, Disk}
+use Rattle.ib_base.specs.declared.outcome.Outcome.{Outcome}
+use Rattle.ib_base.specs.declared.outcome.Outcome.TheVariants as outcome
+use Rattle.wide_sim.specs.declared.outcome.SimOutcome.{SimOutcome}
+use Rattle.wide_sim.specs.declared.outcome.SimOutcome.TheVariants.{Ended, Reported, Spent}
 use Rattle.c_typed.specs.Program.{Program as Typed}
 use Rattle.first_form.specs.declared.program.Program.{Program}
+use Rattle.impactc_words.specs.declared.words.Command.{Command}
+use Rattle.impactc_words.specs.declared.words.Command.TheVariants.{Check, Interp, Run}
+use Rattle.impactc_core.specs.declared.core_err.CoreErr.{CoreErr}
+use Rattle.impactc_core.specs.declared.core_err.CoreErr.TheVariants.{Usage as BadWords, Source, HostFault as Host, NoMemory as Memory, TooLarge as Large}
 use Rattle.impactc_core.specs.declared.status.Status.{Status}
 use Rattle.impactc_core.specs.declared.status.Status.TheVariants.{Done, Usage, SourceRefused, ProfileRefused, CodeRefused, HostFault, NoMemory, TooLarge, ProgramFault, CyclesSpent}
-use Rattle.impactc_core.specs.declared.words.Command.{Command}
-use Rattle.impactc_core.specs.declared.words.Command.TheVariants.{Check, Interp, Run}
-use Rattle.impactc_core.specs.Answers.{AnswerOf, MayChange, CanWork, HasWorked, Answers}
-use Rattle.impactc_core.specs.RunAnswers.{HasFirstForm, IsNotCompiled}
-use Rattle.impactc_core.specs.Sources.{HasProgram, IsKnown, IsPast, IsRefused, IsTooLarge}
+use Rattle.impactc_core.specs.declared.success.Success.{Success}
+use Rattle.impactc_core.specs.Answers.{IsPlain, CanWork, CauseOf, HasWorked, RefusesInput, Succeeds, Answers}
+use Rattle.impactc_core.specs.Notes.{outcome_status, status_of, success_status}
+use Rattle.impactc_core.specs.RunAnswers.{HasFirstForm, IsNotCompiled, IsOver}
+use Rattle.impactc_core.specs.Runs.{ran_so}
+use Rattle.impactc_core.specs.Sources.{HasProgram, IsKnown, IsPast, IsFaulty, IsTooLarge, IsRefused}
 use Rattle.impactc_core.proofs.Forms.{no_other_form}
 use Rattle.impactc_core.proofs.Fronts.{no_fault, no_past}
+use Rattle.impactc_core.proofs.Topped.{same_status}
 
 same_content : (disk : Option Disk) (file a b : List ℕ) → IsSomeAnd disk (λ d. get d.files file ≡ Some a) → IfSome disk (λ d. get d.files file ≡ Some b) → a ≡ b
 same_content None file a b h k = absurd h
 same_content (Some disk) file a b h k = some_same (sym h ∙ k)
 
--- a file that has a program is not refused
-module _ (file content : List ℕ) (program : Typed) (old : World) (known : IsKnown file old content) (has : HasProgram content program) where
-  not_refused : (new : World) (note : List ℕ) → IsRefused file old new note → ⊥
-  not_refused new note refused =
-      let same : content ≡ refused.content = same_content old.disk file content refused.content known.there refused.source.there in
-      no_fault refused.content program (subst (λ (bytes : List ℕ). HasProgram bytes program) same has) refused.place refused.reason refused.has_fault
+-- ---- what can be worked on is not refused
 
-  not_large : (new : World) (note : List ℕ) → IsTooLarge file old new note → ⊥
-  not_large new note large =
-      let same : content ≡ large.content = same_content old.disk file content large.content known.there large.there in
-      no_past content program has known.fits large.limit (subst (λ (bytes : List ℕ). IsPast bytes large.limit) (sym same) large.past)
+module _ (file content : List ℕ) (program : Typed) (w : World) (known : IsKnown file w content) (has : HasProgram content program) where
+  not_faulty : (place : _) (reason : _) → IsFaulty file place reason w → ⊥
+  not_faulty place reason faulty =
+      let same : content ≡ faulty.content = same_content w.disk file content faulty.content known.there faulty.source.there in
+      no_fault faulty.content program (subst (λ (bytes : List ℕ). HasProgram bytes program) same has) place reason faulty.has_fault
 
-not_outside : (file content : List ℕ) (program : Program) (old : World) → IsKnown file old content → HasFirstForm content program → (new : World) (note : List ℕ) → IsNotCompiled file old new note → ⊥
-not_outside file content program old known has new note outside =
-    let same : content ≡ outside.content = same_content old.disk file content outside.content known.there outside.source.there in
+  not_large : (limit : _) → IsTooLarge file limit w → ⊥
+  not_large limit large =
+      let same : content ≡ large.content = same_content w.disk file content large.content known.there large.there in
+      no_past content program has known.fits limit (subst (λ (bytes : List ℕ). IsPast bytes limit) (sym same) large.past)
+
+  not_refused : (refusal : CoreErr) → IsRefused file refusal w → ⊥
+  not_refused BadWords is = is
+  not_refused (Source name place reason) is = not_faulty place reason is.1
+  not_refused Host is = is
+  not_refused Memory is = is
+  not_refused (Large limit) is = not_large limit is
+
+not_outside : (file content : List ℕ) (program : Program) (w : World) → IsKnown file w content → HasFirstForm content program → (refusal : CoreErr) → IsNotCompiled file refusal w → ⊥
+not_outside file content program w known has refusal outside =
+    let same : content ≡ outside.content = same_content w.disk file content outside.content known.there outside.source.there in
     no_other_form outside.content program (subst (λ (bytes : List ℕ). HasFirstForm bytes program) same has) outside.other
 
-not_run : (file content : List ℕ) (program : Program) (old : World) → IsKnown file old content → HasFirstForm content program → (new : World) (note : List ℕ) → IsRefused file old new note ⊎ IsNotCompiled file old new note → ⊥
-not_run file content program old known has new note (inl refused) = not_refused file content has.meant old known has.typed new note refused
-not_run file content program old known has new note (inr outside) = not_outside file content program old known has new note outside
+unrefused : (command : Command) (w : World) (refusal : CoreErr) → CanWork command w → RefusesInput command refusal w → ⊥
+unrefused (Check file) w refusal can is = not_refused file can.0 can.1 w can.2 can.3 refusal is
+unrefused (Interp file) w refusal can is = not_refused file can.0 can.1 w can.2 can.3 refusal is
+unrefused (Run file) w refusal can (inl is) = not_refused file can.0 can.3.meant w can.2 can.3.typed refusal is
+unrefused (Run file) w refusal can (inr outside) = not_outside file can.0 can.1 w can.2 can.3 refusal outside
+
+-- ---- what succeeds has worked
+
+interpreted_status : (file : List ℕ) (outcome : Outcome) → HasWorked (Interp file) (outcome_status outcome)
+interpreted_status file (outcome.Ended result) = inl refl
+interpreted_status file (outcome.Faulted place kind) = inr (inl refl)
+interpreted_status file outcome.Spent = inr (inr refl)
+
+run_status : (file : List ℕ) (most : ℕ) (outcome : SimOutcome) → IsOver outcome → HasWorked (Run file) (success_status (ran_so most outcome))
+run_status file most (Ended result cycles) over = inl refl
+run_status file most (Reported place kind cycles) over = inr refl
+run_status file most Spent over = absurd over
+
+succeeded : (command : Command) (success : Success) (old new : World) → Succeeds command success old new → HasWorked command (success_status success)
+succeeded (Check file) success old new is = ap success_status is.is
+succeeded (Interp file) success old new is = subst (λ (s : Success). HasWorked (Interp file) (success_status s)) (sym is.is) (interpreted_status file is.outcome)
+succeeded (Run file) success old new is = subst (λ (s : Success). HasWorked (Run file) (success_status s)) (sym is.runs.is) (run_status file 100000000 is.runs.outcome is.over)
+
+-- ---- the call
 
 -- the work is done, or memory or the host hindered it
 abbrev pub Comes : Command → Status → Type 0 → Type 0
 Comes command status rose = HasWorked command status ⊎ ((status ≡ NoMemory) ⊎ rose)
 
-abbrev AnswersTo : Command → (old new : World) → Status → Type 0
-AnswersTo command old new status = Answers (AnswerOf (Some command)) (MayChange (Some command)) old new status
+by_cause : (command : Command) (old worked : World) (work : Result Success CoreErr) → CanWork command old → CauseOf (Some command) work old worked → HasWorked command (status_of work)
+by_cause command old worked (Ok success) can cause = succeeded command success old worked cause
+by_cause command old worked (Err refusal) can cause = absurd (unrefused command old refusal can cause.0)
 
-at_check : (file : List ℕ) (old new : World) (status : Status) (rose : Type 0) → CanWork (Check file) old → AnswersTo (Check file) old new status → (status ≡ HostFault → rose) → Comes (Check file) status rose
-at_check file old new Done rose can answers fault = inl refl
-at_check file old new Usage rose can answers fault = absurd answers.says
-at_check file old new SourceRefused rose can answers fault = absurd (not_refused file can.0 can.1 old can.2 can.3 answers.worked answers.whole answers.says)
-at_check file old new ProfileRefused rose can answers fault = absurd answers.says
-at_check file old new CodeRefused rose can answers fault = absurd answers.says
-at_check file old new HostFault rose can answers fault = inr (inr (fault refl))
-at_check file old new NoMemory rose can answers fault = inr (inl refl)
-at_check file old new TooLarge rose can answers fault = absurd (not_large file can.0 can.1 old can.2 can.3 answers.worked answers.whole answers.says)
-at_check file old new ProgramFault rose can answers fault = absurd answers.says
-at_check file old new CyclesSpent rose can answers fault = absurd answers.says
+kinds : (status : Status) → (status ≡ HostFault) ⊎ ((status ≡ NoMemory) ⊎ IsPlain status)
+kinds Done = inr (inr tt)
+kinds Usage = inr (inr tt)
+kinds SourceRefused = inr (inr tt)
+kinds ProfileRefused = inr (inr tt)
+kinds CodeRefused = inr (inr tt)
+kinds HostFault = inl refl
+kinds NoMemory = inr (inl refl)
+kinds TooLarge = inr (inr tt)
+kinds ProgramFault = inr (inr tt)
+kinds CyclesSpent = inr (inr tt)
 
-at_interp : (file : List ℕ) (old new : World) (status : Status) (rose : Type 0) → CanWork (Interp file) old → AnswersTo (Interp file) old new status → (status ≡ HostFault → rose) → Comes (Interp file) status rose
-at_interp file old new Done rose can answers fault = inl (inl refl)
-at_interp file old new Usage rose can answers fault = absurd answers.says
-at_interp file old new SourceRefused rose can answers fault = absurd (not_refused file can.0 can.1 old can.2 can.3 answers.worked answers.whole answers.says)
-at_interp file old new ProfileRefused rose can answers fault = absurd answers.says
-at_interp file old new CodeRefused rose can answers fault = absurd answers.says
-at_interp file old new HostFault rose can answers fault = inr (inr (fault refl))
-at_interp file old new NoMemory rose can answers fault = inr (inl refl)
-at_interp file old new TooLarge rose can answers fault = absurd (not_large file can.0 can.1 old can.2 can.3 answers.worked answers.whole answers.says)
-at_interp file old new ProgramFault rose can answers fault = inl (inr (inl refl))
-at_interp file old new CyclesSpent rose can answers fault = inl (inr (inr refl))
+module _ (command : Command) (old new : World) (status : Status) (rose : Type 0) (can : CanWork command old) (answers : Answers (Some command) old new status) (fault : status ≡ HostFault → rose) where
+  plainly : IsPlain status → HasWorked command status
+  plainly plain =
+      let same = same_status answers.work status answers.leaves.whole plain answers.leaves.says in
+      subst (HasWorked command) (sym same)
+      (by_cause command old answers.worked answers.work can (answers.works.cause (subst IsPlain same plain)))
 
-at_run : (file : List ℕ) (old new : World) (status : Status) (rose : Type 0) → CanWork (Run file) old → AnswersTo (Run file) old new status → (status ≡ HostFault → rose) → Comes (Run file) status rose
-at_run file old new Done rose can answers fault = inl (inl refl)
-at_run file old new Usage rose can answers fault = absurd answers.says
-at_run file old new SourceRefused rose can answers fault = absurd (not_run file can.0 can.1 old can.2 can.3 answers.worked answers.whole answers.says)
-at_run file old new ProfileRefused rose can answers fault = absurd answers.says
-at_run file old new CodeRefused rose can answers fault = absurd answers.says
-at_run file old new HostFault rose can answers fault = inr (inr (fault refl))
-at_run file old new NoMemory rose can answers fault = inr (inl refl)
-at_run file old new TooLarge rose can answers fault = absurd (not_large file can.0 can.3.meant old can.2 can.3.typed answers.worked answers.whole answers.says)
-at_run file old new ProgramFault rose can answers fault = inl (inr refl)
-at_run file old new CyclesSpent rose can answers fault = absurd answers.says
+  by_kind : (status ≡ HostFault) ⊎ ((status ≡ NoMemory) ⊎ IsPlain status) → Comes command status rose
+  by_kind (inl e) = inr (inr (fault e))
+  by_kind (inr (inl e)) = inr (inl e)
+  by_kind (inr (inr plain)) = inl (plainly plain)
 
-at_command : (command : Command) (old new : World) (status : Status) (rose : Type 0) → CanWork command old → AnswersTo command old new status → (status ≡ HostFault → rose) → Comes command status rose
-at_command (Check file) = at_check file
-at_command (Interp file) = at_interp file
-at_command (Run file) = at_run file
-
-pub completes : (read : Option Command) (command : Command) (old new : World) (status : Status) (rose : Type 0) → read ≡ Some command → CanWork command old → Answers (AnswerOf read) (MayChange read) old new status → (status ≡ HostFault → rose) → Comes command status rose
-completes read command old new status rose is can answers fault =
-    at_command command old new status rose can (subst (λ (r : Option Command). Answers (AnswerOf r) (MayChange r) old new status) is answers) fault
+  pub completes : Comes command status rose
+  completes = by_kind (kinds status)

@@ -25,7 +25,7 @@ use Rattle.c_typed.specs.Program.{Program}
 use Rattle.c_types_units.specs.Typing.{IsTyped, Refused, Verdict, verdict, keeps_rules, breaks_rule}
 use Rattle.c_parse_machine.proofs.Answered.{one_tree}
 use Rattle.impactc_core.specs.declared.core_err.Limit.{Limit}
-use Rattle.impactc_core.specs.declared.core_err.Limit.TheVariants.{Source as SourceBytes, Nesting, Globals, Frame}
+use Rattle.impactc_core.specs.declared.core_err.Limit.TheVariants.{Source as SourceBytes, Nesting, Globals, Frame, Operations}
 use Rattle.impactc_core.specs.declared.core_err.SourceFault.{SourceFault}
 use Rattle.impactc_core.specs.declared.core_err.SourceFault.TheVariants.{Lexical, Syntax, Typing, NotInThisVersion}
 use Rattle.impactc_core.specs.Sources.{HasUnit, HasProgram, IsJudged, HasFault, IsPast}
@@ -129,3 +129,4 @@ no_past content program has fits Globals past =
 no_past content program has fits Frame past =
     let same : keeps_rules (within program) ≡ keeps_rules (large_frame past.1.0) = same_verdict content program _ has past.1.1 in
     cc
+no_past content program has fits Operations past = past

@@ -6,7 +6,6 @@ pub mod Interpreting
 pub mod Noted
 pub mod Plain
 pub mod Ran
-pub mod Reading
 pub mod Refusing
 pub mod Topped
 pub mod Working

@@ -7,9 +7,9 @@ use Rattle.impactc_core.specs.declared.status.Status.{Status}
 use Rattle.impactc_core.specs.declared.status.Status.TheVariants.{HostFault, NoMemory}
 use Rattle.impactc_core.specs.declared.success.Success.{Success}
 use Rattle.impactc_core.proofs.Plain.{success_plain}
-use Rattle.impactc_core.specs.Answers.{IsPlain}
+use Rattle.impactc_core.specs.Answers.{IsPlain, LeavesNote, NoteFor}
 use Rattle.impactc_core.specs.Notes.{refusal_note, status_of, note_of}
-use Rattle.impactc_core.specs.Work.{NoteFor, LeavesNote, Leaves, status_behind}
+use Rattle.impactc_core.specs.Work.{Leaves, status_behind}
 
 plain_says : (work : Result Success CoreErr) (status : Status) (whole : List ℕ) → IsPlain status → status ≡ status_of work → whole ≡ note_of work → NoteFor work status whole
 plain_says work HostFault whole plain e w = absurd plain

@@ -4,17 +4,19 @@ use Rattle.ib_base.specs.Cause.{Rose}
 use Rattle.ib_base.specs.World.{World, LacksFile, Begins, noted}
 use Rattle.c_typed.specs.Program.{Program as Typed}
 use Rattle.first_form.specs.declared.program.Program.{Program}
+use Rattle.impactc_words.specs.declared.words.Command.{Command}
+use Rattle.impactc_words.specs.declared.words.Command.TheVariants.{Check, Interp, Run}
+use Rattle.impactc_words.specs.Words.{AskFor}
 use Rattle.impactc_core.specs.declared.core_err.CoreErr.{CoreErr}
 use Rattle.impactc_core.specs.declared.core_err.CoreErr.TheVariants.{Usage as BadWords, HostFault as Host, NoMemory as Memory}
 use Rattle.impactc_core.specs.declared.status.Status.{Status}
-use Rattle.impactc_core.specs.declared.status.Status.TheVariants.{Done, Usage, HostFault, NoMemory, ProgramFault, CyclesSpent}
-use Rattle.impactc_core.specs.declared.words.Command.{Command}
-use Rattle.impactc_core.specs.declared.words.Command.TheVariants.{Check, Interp, Run}
-use Rattle.impactc_core.specs.Notes.{refusal_note}
-use Rattle.impactc_core.specs.Sources.{IsKnown, HasProgram}
-use Rattle.impactc_core.specs.CheckAnswers.{CheckAnswer}
-use Rattle.impactc_core.specs.InterpAnswers.{InterpAnswer, IsInterpretedInPart}
-use Rattle.impactc_core.specs.RunAnswers.{RunAnswer, HasFirstForm, HasRunInPart}
+use Rattle.impactc_core.specs.declared.status.Status.TheVariants.{Done, HostFault, NoMemory, ProgramFault, CyclesSpent}
+use Rattle.impactc_core.specs.declared.success.Success.{Success}
+use Rattle.impactc_core.specs.Notes.{refusal_note, status_of, note_of}
+use Rattle.impactc_core.specs.Sources.{IsKnown, HasProgram, IsRefused}
+use Rattle.impactc_core.specs.CheckAnswers.{IsChecked}
+use Rattle.impactc_core.specs.InterpAnswers.{IsInterpreted, IsInterpretedInPart}
+use Rattle.impactc_core.specs.RunAnswers.{HasFirstForm, HasRun, HasRunInPart, IsRefusedToRun}
 
 -- any status but those of a failing host and of want of memory
 abbrev pub IsPlain : Status → Type 0
@@ -22,41 +24,39 @@ IsPlain HostFault = ⊥
 IsPlain NoMemory = ⊥
 IsPlain status = ⊤
 
--- ---- the commands
+-- ---- the commands: each has a line in the following tables, and its records in a file of its own
 
--- what words that ask for nothing answer
-abbrev pub UsageAnswer : Status → World → World → List ℕ → Type 0
-UsageAnswer Usage old new note = (new ≡ old) × (note ≡ refusal_note BadWords)
-UsageAnswer status old new note = ⊥
+-- the file that it reads
+abbrev pub input_of : Command → List ℕ
+input_of (Check file) = file
+input_of (Interp file) = file
+input_of (Run file) = file
 
--- what a command answers
-abbrev pub AnswerOf : Option Command → Status → World → World → List ℕ → Type 0
-AnswerOf None = UsageAnswer
-AnswerOf (Some (Check file)) = CheckAnswer file
-AnswerOf (Some (Interp file)) = InterpAnswer file
-AnswerOf (Some (Run file)) = RunAnswer file
+-- its work is done, and came out so
+abbrev pub Succeeds : Command → Success → World → World → Type 0
+Succeeds (Check file) = IsChecked file
+Succeeds (Interp file) = IsInterpreted file
+Succeeds (Run file) = HasRun file
 
--- what a command may change beside its note, whatever it answers
-abbrev pub MayChange : Option Command → World → World → Type 0
-MayChange None old new = new ≡ old
-MayChange (Some (Check file)) old new = new ≡ old
-MayChange (Some (Interp file)) old new = (new ≡ old) ⊎ IsInterpretedInPart file old new
-MayChange (Some (Run file)) old new = (new ≡ old) ⊎ HasRunInPart file old new
+-- what it reads is refused so
+abbrev pub RefusesInput : Command → CoreErr → World → Type 0
+RefusesInput (Check file) = IsRefused file
+RefusesInput (Interp file) = IsRefused file
+RefusesInput (Run file) = IsRefusedToRun file
 
--- the file that a command reads is not there
-abbrev pub LacksInput : Option Command → World → Type 0
-LacksInput None w = ⊥
-LacksInput (Some (Check file)) w = LacksFile w file
-LacksInput (Some (Interp file)) w = LacksFile w file
-LacksInput (Some (Run file)) w = LacksFile w file
+-- a part of its work is done; of some work no part is seen
+abbrev pub IsBegun : Command → World → World → Type 0
+IsBegun (Check file) old new = ⊥
+IsBegun (Interp file) old new = IsInterpretedInPart file old new
+IsBegun (Run file) old new = HasRunInPart file old new
 
--- the files are told, and the one that the command reads is such that nothing but the host or want of memory hinders its work
+-- the files are told, and the one that it reads is such that nothing but the host or want of memory hinders its work
 abbrev pub CanWork : Command → World → Type 0
 CanWork (Check file) w = (content : List ℕ) × (program : Typed) × IsKnown file w content × HasProgram content program
 CanWork (Interp file) w = (content : List ℕ) × (program : Typed) × IsKnown file w content × HasProgram content program
 CanWork (Run file) w = (content : List ℕ) × (program : Program) × IsKnown file w content × HasFirstForm content program
 
--- the work is done
+-- its work is done
 abbrev pub HasWorked : Command → Status → Type 0
 HasWorked (Check file) status = status ≡ Done
 HasWorked (Interp file) status = (status ≡ Done) ⊎ ((status ≡ ProgramFault) ⊎ (status ≡ CyclesSpent))
@@ -64,32 +64,51 @@ HasWorked (Run file) status = (status ≡ Done) ⊎ (status ≡ ProgramFault)
 
 -- ---- every command
 
--- the work of a command, before its note
-pub record Works (answer : Status → World → World → List ℕ → Type 0) (may_change : World → World → Type 0) (old new : World) (status : Status) (note : List ℕ) : Type 0 where
-  pub may : may_change old new
-  pub answers : IsPlain status → answer status old new note
+-- what the work may change beside the note, however it comes out
+abbrev pub MayChange : Option Command → World → World → Type 0
+MayChange None old new = new ≡ old
+MayChange (Some command) old new = (new ≡ old) ⊎ IsBegun command old new
 
--- the note of some answer
-abbrev pub IsAnswersNote : (Status → World → World → List ℕ → Type 0) → World → World → List ℕ → Type 0
-IsAnswersNote answer old new note = (status : Status) × IsPlain status × answer status old new note
+-- why work comes out so: it is done; or it is refused, and then nothing is printed, and the input is left; words that ask for
+-- nothing are refused as such
+abbrev pub CauseOf : Option Command → Result Success CoreErr → World → World → Type 0
+CauseOf None work old new = (work ≡ Err BadWords) × (new ≡ old)
+CauseOf (Some command) (Ok success) old new = Succeeds command success old new
+CauseOf (Some command) (Err refusal) old new = RefusesInput command refusal old × (new ≡ old)
 
--- The text of which the note is the whole or a beginning. With a failing host or want of memory it is the text that
--- says so, or that of the answer whose note failed.
-abbrev pub NoteOf : (Status → World → World → List ℕ → Type 0) → Status → World → World → List ℕ → Type 0
-NoteOf answer HostFault old new whole = (whole ≡ refusal_note Host) ⊎ IsAnswersNote answer old new whole
-NoteOf answer NoMemory old new whole = (whole ≡ refusal_note Memory) ⊎ IsAnswersNote answer old new whole
-NoteOf answer status old new whole = answer status old new whole
+-- what words ask for was done, all but its note; a failing host and want of memory come at any point
+pub record Works (read : Option Command) (work : Result Success CoreErr) (old new : World) : Type 0 where
+  pub may : MayChange read old new
+  pub cause : IsPlain (status_of work) → CauseOf read work old new
 
--- What a call did: its work, and then a note.
-pub record Answers (answer : Status → World → World → List ℕ → Type 0) (may_change : World → World → Type 0) (old new : World) (status : Status) : Type 0 where
-  pub worked : World
+-- the text that a status goes with, behind this work: its own, or that of a failing host or of want of memory, where it failed
+-- to be left
+abbrev pub NoteFor : Result Success CoreErr → Status → List ℕ → Type 0
+NoteFor work HostFault whole = (whole ≡ note_of work) × ((status_of work ≡ HostFault) ⊎ IsPlain (status_of work))
+NoteFor work NoMemory whole = (whole ≡ refusal_note Memory) ⊎ ((whole ≡ note_of work) × IsPlain (status_of work))
+NoteFor work status whole = (whole ≡ note_of work) × (status ≡ status_of work)
+
+-- a note was left, or a beginning of it where that failed
+pub record LeavesNote (work : Result Success CoreErr) (old new : World) (status : Status) : Type 0 where
   pub whole : List ℕ
   pub note : List ℕ
-  pub may : may_change old worked
-  pub says : NoteOf answer status old worked whole
+  pub says : NoteFor work status whole
   pub begins : Begins note whole
   pub exact : IsPlain status → note ≡ whole
-  pub world : new ≡ noted worked note
+  pub world : new ≡ noted old note
+
+-- what a call did that was asked for so: its work, and then a note
+pub record Answers (read : Option Command) (old new : World) (status : Status) : Type 0 where
+  pub work : Result Success CoreErr
+  pub worked : World
+  pub works : Works read work old worked
+  pub leaves : LeavesNote work worked new status
+
+-- the words ask for a command, and the file that it reads is not there
+pub record LacksInput (words : List (List ℕ)) (w : World) : Type 0 where
+  pub command : Command
+  pub asked : AskFor words command
+  pub lacks : LacksFile w (input_of command)
 
 -- ---- the host's faults
 

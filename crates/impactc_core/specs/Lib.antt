@@ -1,10 +1,11 @@
 pub mod Answers
 pub mod CheckAnswers
 pub mod InterpAnswers
+pub mod Machines
 pub mod Notes
 pub mod RunAnswers
 pub mod Runs
 pub mod Sources
 pub mod Status
-pub mod Words
 pub mod Work
+pub mod Written

@@ -11,7 +11,7 @@ use Rattle.c_typed.specs.declared.rule.Rule.TheVariants as rule
 use Rattle.impactc_core.specs.declared.core_err.CoreErr.{CoreErr}
 use Rattle.impactc_core.specs.declared.core_err.CoreErr.TheVariants.{Usage as BadWords, Source, HostFault as Host, NoMemory as Memory, TooLarge as Large}
 use Rattle.impactc_core.specs.declared.core_err.Limit.{Limit}
-use Rattle.impactc_core.specs.declared.core_err.Limit.TheVariants.{Source as SourceBytes, Nesting, Globals, Frame}
+use Rattle.impactc_core.specs.declared.core_err.Limit.TheVariants.{Source as SourceBytes, Nesting, Globals, Frame, Operations}
 use Rattle.impactc_core.specs.declared.core_err.SourceFault.{SourceFault}
 use Rattle.impactc_core.specs.declared.core_err.SourceFault.TheVariants.{Lexical, Syntax, Typing, NotInThisVersion}
 use Rattle.impactc_core.specs.declared.status.Status.{Status}
@@ -48,6 +48,7 @@ limit_text SourceBytes = codes "source 1048576"
 limit_text Nesting = codes "nesting 200"
 limit_text Globals = codes "globals 524288"
 limit_text Frame = codes "frame 262144"
+limit_text Operations = codes "operations 200000"
 
 -- how a program's run came out
 abbrev pub outcome_text : Outcome → List ℕ

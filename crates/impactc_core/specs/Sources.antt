@@ -14,11 +14,11 @@ use Rattle.c_typed.specs.Program.{Program}
 use Rattle.c_program.specs.Limits.{within, large_globals, large_frame}
 use Rattle.c_types_units.specs.Typing.{IsTyped, Verdict, verdict, keeps_rules, breaks_rule}
 use Rattle.impactc_core.specs.declared.core_err.Limit.{Limit}
-use Rattle.impactc_core.specs.declared.core_err.Limit.TheVariants.{Source as SourceBytes, Nesting, Globals, Frame}
+use Rattle.impactc_core.specs.declared.core_err.Limit.TheVariants.{Source as SourceBytes, Nesting, Globals, Frame, Operations}
 use Rattle.impactc_core.specs.declared.core_err.SourceFault.{SourceFault}
 use Rattle.impactc_core.specs.declared.core_err.SourceFault.TheVariants.{Lexical, Syntax, Typing, NotInThisVersion}
+use Rattle.impactc_core.specs.declared.core_err.CoreErr.{CoreErr}
 use Rattle.impactc_core.specs.declared.core_err.CoreErr.TheVariants.{Source, TooLarge as Large}
-use Rattle.impactc_core.specs.Notes.{refusal_note}
 
 -- the file is there, and within the limit of 1,048,576 bytes
 pub record IsSource (file : List ℕ) (w : World) (content : List ℕ) : Type 0 where
@@ -79,12 +79,14 @@ pub record HasProgram (content : List ℕ) (program : Program) : Type 0 where
 
 -- ---- refusals
 
--- a quantity of the content that passes its limit; a later one holds that no earlier one does
+-- A quantity of the content that passes its limit; a later one holds that no earlier one does. Operations are counted by
+-- commands that lower, of which there is none.
 abbrev pub IsPast : List ℕ → Limit → Type 0
 IsPast content SourceBytes = 1048576 < length content
 IsPast content Nesting = (length content ≤ 1048576) × NestsTooDeep content
 IsPast content Globals = (length content ≤ 1048576) × ((bytes : ℕ) × IsJudged content (keeps_rules (large_globals bytes)))
 IsPast content Frame = (length content ≤ 1048576) × ((bytes : ℕ) × IsJudged content (keeps_rules (large_frame bytes)))
+IsPast content Operations = ⊥
 
 -- Why a content within the limit of its size is refused, at which place; a later cause holds that no earlier one does. A rule
 -- is the least of those that are broken at the first anchor. That a form is not compiled yet is no fault of a source.
@@ -94,21 +96,20 @@ HasFault content place Syntax = HasWrongPhrase content place
 HasFault content place (Typing rule) = IsJudged content (breaks_rule (record { rule = rule; place = place }))
 HasFault content place NotInThisVersion = ⊥
 
--- the file is past a limit; nothing is printed, and the input is left
-pub record IsTooLarge (file : List ℕ) (old new : World) (note : List ℕ) : Type 0 where
+-- the file is past the limit
+pub record IsTooLarge (file : List ℕ) (limit : Limit) (w : World) : Type 0 where
   pub content : List ℕ
-  pub limit : Limit
-  pub there : HasFile old file content
+  pub there : HasFile w file content
   pub past : IsPast content limit
-  pub same : new ≡ old
-  pub says : note ≡ refusal_note (Large limit)
 
--- the file has no tokens, no unit or no typed program; nothing is printed, and the input is left
-pub record IsRefused (file : List ℕ) (old new : World) (note : List ℕ) : Type 0 where
+-- the file has no tokens, no unit or no typed program
+pub record IsFaulty (file : List ℕ) (place : Place) (reason : SourceFault) (w : World) : Type 0 where
   pub content : List ℕ
-  pub place : Place
-  pub reason : SourceFault
-  pub source : IsSource file old content
+  pub source : IsSource file w content
   pub has_fault : HasFault content place reason
-  pub same : new ≡ old
-  pub says : note ≡ refusal_note (Source file place reason)
+
+-- why a file with a source is refused so
+abbrev pub IsRefused : (file : List ℕ) → CoreErr → World → Type 0
+IsRefused file (Source name place reason) w = (name ≡ file) × IsFaulty file place reason w
+IsRefused file (Large limit) w = IsTooLarge file limit w
+IsRefused file refusal w = ⊥

@@ -1,13 +1,9 @@
 -- What the parts of a command's work come to.
-use Rattle.std.specs.Prelude.{◌≡◌, ◌≤◌, ◌<◌, ◌⊎◌, ⊤, ℕ, List, length, slice_get, Result}
-use Rattle.ib_meaning.specs.Agreement.{Agrees, Finish}
+use Rattle.std.specs.Prelude.{◌≡◌, ◌<◌, ◌⊎◌, ⊤, ℕ, List, length, slice_get}
 use Rattle.ib_base.specs.World.{World, HasFile, Begins, noted}
 use Rattle.ib_base.specs.declared.outcome.Outcome.{Outcome}
 use Rattle.ib_run.specs.OverHost.{OverHost}
-use Rattle.machine_desc.specs.Machine.{four_units}
 use Rattle.wide_core.specs.declared.code.RawCode.{RawCode}
-use Rattle.wide_core.specs.Valid.{IsValid, limits}
-use Rattle.wide_sim.specs.Simulation.{EndsAfter}
 use Rattle.first_form.specs.declared.program.Program.{Program}
 use Rattle.first_form.specs.Meaning.{source_meaning}
 use Rattle.first_code.specs.Plain.{IsPlain as IsPlainCode}
@@ -30,12 +26,11 @@ use Rattle.impactc_core.specs.declared.front.SourceErr.TheVariants.{Fault, TooLa
 use Rattle.impactc_core.specs.declared.status.Status.{Status}
 use Rattle.impactc_core.specs.declared.status.Status.TheVariants.{HostFault, NoMemory}
 use Rattle.impactc_core.specs.declared.success.Success.{Success}
-use Rattle.impactc_core.specs.declared.success.Success.TheVariants.{Checked, Interpreted, Ran}
-use Rattle.impactc_core.specs.Answers.{IsPlain}
-use Rattle.impactc_core.specs.Notes.{refusal_note, status_of, note_of}
-use Rattle.impactc_core.specs.RunAnswers.{HasFirstForm, HasOtherForm}
-use Rattle.impactc_core.specs.Runs.{EndsAlike, code_meaning, outcome_of}
-use Rattle.impactc_core.specs.Sources.{HasProgram, HasFault, IsPast, place_of}
+use Rattle.impactc_core.specs.declared.success.Success.TheVariants.{Interpreted}
+use Rattle.impactc_core.specs.Machines.{four}
+use Rattle.impactc_core.specs.RunAnswers.{HasOtherForm, IsOver}
+use Rattle.impactc_core.specs.Runs.{RunsTo}
+use Rattle.impactc_core.specs.Sources.{HasFault, IsPast, place_of}
 
 -- ---- the source
 
@@ -92,25 +87,11 @@ of_file file (Fault place fault) = Source file place fault
 of_file file (PastLimit limit) = Large limit
 of_file file NoMemoryLeft = Memory
 
--- the file's refusal for such a reason
-pub record RefusesFile (file : List ℕ) (reason : SourceErr → Type 0) (refusal : CoreErr) : Type 0 where
-  pub error : SourceErr
-  pub is : refusal ≡ of_file file error
-  pub why : reason error
-
 -- a run breaks off by the host's failure or for want of memory alone
 abbrev pub IsBreak : CoreErr → Type 0
 IsBreak Host = ⊤
 IsBreak Memory = ⊤
 IsBreak refusal = ⊥
-
--- ---- `check`
-
--- a source was judged, and has a program
-pub record ChecksSource (content : List ℕ) (success : Success) : Type 0 where
-  pub program : Typed
-  pub typed : HasProgram content program
-  pub is : success ≡ Checked
 
 -- ---- `interp`
 
@@ -120,70 +101,16 @@ pub record Interprets (program : Typed) (success : Success) (old new : World) : 
   pub is : success ≡ Interpreted outcome
   pub means : OverHost (MeansSo program 10000000 outcome) old new
 
--- a source's program was interpreted
-pub record InterpretsSource (content : List ℕ) (success : Success) (old new : World) : Type 0 where
-  pub program : Typed
-  pub typed : HasProgram content program
-  pub interprets : Interprets program success old new
-
 -- ---- `run`
 
--- the code was run to its end
-pub record EndsCode (code : RawCode) (success : Success) (old new : World) : Type 0 where
-  pub finish : Finish
-  pub cycles : ℕ
-  pub is : success ≡ Ran (outcome_of finish) cycles
-  pub some : 1 ≤ cycles
-  pub few : cycles ≤ 100000000
-  pub runs : OverHost (EndsAfter (code_meaning code) finish cycles) old new
-
--- a code of the program was run to its end
+-- a program was run to its end
 pub record RunsProgram (program : Program) (success : Success) (old new : World) : Type 0 where
   pub code : RawCode
   pub plain : IsPlainCode code
-  pub valid : IsValid (limits 4 32 four_units) code
-  pub agrees : Agrees (source_meaning program) (code_meaning code)
-  pub finish : Finish
-  pub cycles : ℕ
-  pub is : success ≡ Ran (outcome_of finish) cycles
-  pub some : 1 ≤ cycles
-  pub few : cycles ≤ 100000000
-  pub runs : OverHost (EndsAlike program code finish cycles) old new
-
--- a source's program was run to its end
-pub record RunsSource (content : List ℕ) (success : Success) (old new : World) : Type 0 where
-  pub program : Program
-  pub form : HasFirstForm content program
-  pub runs : RunsProgram program success old new
-
--- ---- work that is not done
-
--- the work on a source broke off, with this printed
-pub record BreaksOff (printed : World → World → Type 0) (refusal : CoreErr) (old new : World) : Type 0 where
-  pub is_break : IsBreak refusal
-  pub part : printed old new
-
--- why the program of a source within the limit was not run to its end: the source was refused, and then nothing changed; or
--- the run broke off
-abbrev pub RefusesSource : (file : List ℕ) → (reason : SourceErr → Type 0) → (printed : World → World → Type 0) → CoreErr → (old new : World) → Type 0
-RefusesSource file reason printed refusal old new = (RefusesFile file reason refusal × (new ≡ old)) ⊎ BreaksOff printed refusal old new
+  pub runs : RunsTo four (source_meaning program) code 100000000 success old new
+  pub over : IsOver runs.outcome
 
 -- ---- notes
-
--- the text that a status goes with, behind this work
-abbrev pub NoteFor : Result Success CoreErr → Status → List ℕ → Type 0
-NoteFor work HostFault whole = (whole ≡ note_of work) × ((status_of work ≡ HostFault) ⊎ IsPlain (status_of work))
-NoteFor work NoMemory whole = (whole ≡ refusal_note Memory) ⊎ ((whole ≡ note_of work) × IsPlain (status_of work))
-NoteFor work status whole = (whole ≡ note_of work) × (status ≡ status_of work)
-
--- a note was left, or a beginning of it where that failed
-pub record LeavesNote (work : Result Success CoreErr) (old new : World) (status : Status) : Type 0 where
-  pub whole : List ℕ
-  pub note : List ℕ
-  pub says : NoteFor work status whole
-  pub begins : Begins note whole
-  pub exact : IsPlain status → note ≡ whole
-  pub world : new ≡ noted old note
 
 -- the status behind a note that failed: one that says so already stays
 abbrev pub status_behind : Status → Status → Status

@@ -1,22 +1,21 @@
-ghost use Rattle.std.specs.Prelude.{◌≡◌, ◌≤◌, length, IfOk, IfErr, IsErrOf, Some};
-ghost use Rattle.ib_base.specs.World.{LacksFile};
-ghost use Rattle.impactc_core.specs.Answers.{WorkCause, MayChange, Works};
-ghost use Rattle.impactc_core.specs.CheckAnswers.{CheckAnswer};
-ghost use Rattle.impactc_core.specs.Notes.{status_of, note_of};
-ghost use Rattle.impactc_core.specs.Work.{ChecksSource, Refuses, RefusesFile};
+ghost use Rattle.std.specs.Prelude.{◌≡◌, ◌≤◌, length, IsErrOf, Some};
+ghost use Rattle.ib_base.specs.World.{World, LacksFile};
+ghost use Rattle.impactc_words.specs.declared.words.Command.{Command};
+ghost use Rattle.impactc_core.specs.Answers.{WorkCause, Works};
+ghost use Rattle.impactc_core.specs.Sources.{IsSource};
 
 use crate::front::program_of;
 use crate::source::read_source;
-use crate::{Command, CoreErr, FileName, Success};
+use crate::{CoreErr, Success};
 use ib_base::Host;
+use impactc_words::{Command, FileName};
 use std::alloc::Global;
 
 /// Judges a source.
-#[tactic(auto, using(crate::proofs::Checking::checks_source, crate::proofs::Checking::refuses_source, crate::proofs::Refusing::no_host_fault))]
+#[tactic(auto, using(crate::proofs::Checking::works_checked, crate::proofs::Refusing::works_refused, crate::proofs::Refusing::no_host_fault))]
 fn check_source(alloc: Global, file: FileName, bytes: &[u8]) -> Result<Success, CoreErr>
     requires { length bytes.now ≤ 1048576 }
-    ensures checked { IfOk result (ChecksSource bytes.now) }
-    ensures refused { IfErr result (RefusesFile file (Refuses bytes.now)) }
+    ensures works { (w : World) → IsSource file w bytes.now → Works (Some (Command.Check file)) result w w }
     ensures never { IsErrOf result CoreErr.HostFault → ⊥ }
 {
     match program_of(alloc, bytes) {
@@ -26,10 +25,9 @@ fn check_source(alloc: Global, file: FileName, bytes: &[u8]) -> Result<Success, 
 }
 
 /// The work of `check F`.
-#[tactic(auto, using(crate::proofs::Checking::works_source, crate::proofs::Checking::works_unread))]
+#[tactic(auto, using(crate::proofs::Refusing::works_unread))]
 pub fn check<H: Host>(alloc: Global, file: FileName, host: &mut H) -> Result<Success, CoreErr>
-    ensures works { Works (CheckAnswer file) (MayChange (Some (Command.Check file)))
-        (H.world host.old) (H.world host.new) (status_of result) (note_of result) }
+    ensures works { Works (Some (Command.Check file)) result (H.world host.old) (H.world host.new) }
     ensures cause { WorkCause (H.faults host.old) (H.faults host.new) result }
     ensures still_sure { H.sure host.old → H.sure host.new }
     ensures missing { H.sure host.old → IsErrOf result CoreErr.HostFault → LacksFile

@@ -1,10 +1,10 @@
 ghost use Rattle.std.specs.Prelude.{◌≡◌};
 ghost use Rattle.impactc_core.specs.Notes.{rule_text};
 
-use crate::FileName;
 use c_ast::LexFault;
 use c_typed::Rule;
 use ib_base::Place;
+use impactc_words::FileName;
 use std::fmt;
 
 /// Why a source is refused.
@@ -31,6 +31,8 @@ pub enum Limit {
     Globals,
     /// The bytes of a function's frame.
     Frame,
+    /// The operations of a lowered program.
+    Operations,
 }
 
 /// Why a command is refused, with what the note shows.
@@ -107,6 +109,7 @@ impl fmt::Display for Limit {
             Limit::Nesting => f.write_str("nesting 200"),
             Limit::Globals => f.write_str("globals 524288"),
             Limit::Frame => f.write_str("frame 262144"),
+            Limit::Operations => f.write_str("operations 200000"),
         }
     }
 }

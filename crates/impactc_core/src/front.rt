@@ -8,13 +8,14 @@ ghost use Rattle.c_program.specs.Checked.{program};
 ghost use Rattle.impactc_core.specs.Sources.{HasUnit, HasProgram, place_of};
 ghost use Rattle.impactc_core.specs.Work.{Refuses, lexical_refusal, phrase_refusal, typing_refusal, of_file};
 
-use crate::{CoreErr, FileName, Limit, SourceFault};
+use crate::{CoreErr, Limit, SourceFault};
 use c_ast::{LexFault, Token, Unit};
 use c_lex::{LexErr, end_place, lex};
 use c_parse::{ParseErr, parse};
 use c_program::{CheckErr, Program};
 use c_types::check;
 use ib_base::Place;
+use impactc_words::FileName;
 use sqlite_items::{Items, at};
 use std::alloc::Global;
 use thiserror::Error;

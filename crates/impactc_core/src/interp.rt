@@ -1,19 +1,20 @@
-ghost use Rattle.std.specs.Prelude.{◌≡◌, ◌≤◌, length, IfOk, IfErr, OnErr, IsErrOf, Some};
+ghost use Rattle.std.specs.Prelude.{◌≡◌, IfOk, IfErr, OnErr, IsErrOf, Some};
 ghost use Rattle.ib_base.specs.World.{LacksFile};
 ghost use Rattle.ib_run.specs.OverHost.{OverHost};
 ghost use Rattle.c_program.specs.Checked.{program};
 ghost use Rattle.c_eval.specs.Running.{Begins};
-ghost use Rattle.impactc_core.specs.Answers.{WorkCause, MayChange, Works};
-ghost use Rattle.impactc_core.specs.InterpAnswers.{InterpAnswer, BeginsMeaning};
-ghost use Rattle.impactc_core.specs.Notes.{status_of, note_of};
-ghost use Rattle.impactc_core.specs.Work.{Interprets, InterpretsSource, IsBreak, Refuses, RefusesSource};
+ghost use Rattle.impactc_words.specs.declared.words.Command.{Command};
+ghost use Rattle.impactc_core.specs.Answers.{WorkCause, Works};
+ghost use Rattle.impactc_core.specs.Sources.{IsSource};
+ghost use Rattle.impactc_core.specs.Work.{Interprets, IsBreak};
 
 use crate::front::program_of;
 use crate::source::read_source;
-use crate::{Command, CoreErr, FileName, Success};
+use crate::{CoreErr, Success};
 use c_eval::interpret;
 use c_program::Program;
 use ib_base::{Host, RunErr};
+use impactc_words::{Command, FileName};
 use std::alloc::Global;
 
 /// How many turns of loops and calls a program may take.
@@ -43,18 +44,15 @@ fn interpret_program<H: Host>(
 }
 
 /// Judges a source and runs its program by its meaning.
-#[tactic(auto, using(crate::proofs::Interpreting::interprets_source, crate::proofs::Interpreting::refuses_broken, crate::proofs::Interpreting::refuses_source, crate::proofs::Refusing::no_host_fault))]
+#[tactic(auto, using(crate::proofs::Refusing::works_refused, crate::proofs::Refusing::no_host_fault))]
 fn interpret_source<H: Host>(
     alloc: Global,
     file: FileName,
     bytes: &[u8],
     host: &mut H,
 ) -> Result<Success, CoreErr>
-    requires { length bytes.now ≤ 1048576 }
-    ensures means { IfOk result (λ success. InterpretsSource bytes.now success (H.world host.old)
-        (H.world host.new)) }
-    ensures refused { IfErr result (λ refusal. RefusesSource file (Refuses bytes.now)
-        (BeginsMeaning bytes.now) refusal (H.world host.old) (H.world host.new)) }
+    requires { IsSource file (H.world host.old) bytes.now }
+    ensures works { Works (Some (Command.Interp file)) result (H.world host.old) (H.world host.new) }
     ensures cause { WorkCause (H.faults host.old) (H.faults host.new) result }
     ensures still_sure { H.sure host.old → H.sure host.new }
     ensures never { H.sure host.old → IsErrOf result CoreErr.HostFault → ⊥ }
@@ -66,10 +64,9 @@ fn interpret_source<H: Host>(
 }
 
 /// The work of `interp F`.
-#[tactic(auto, using(crate::proofs::Interpreting::works_source, crate::proofs::Interpreting::works_unread))]
+#[tactic(auto, using(crate::proofs::Refusing::works_unread))]
 pub fn interp<H: Host>(alloc: Global, file: FileName, host: &mut H) -> Result<Success, CoreErr>
-    ensures works { Works (InterpAnswer file) (MayChange (Some (Command.Interp file)))
-        (H.world host.old) (H.world host.new) (status_of result) (note_of result) }
+    ensures works { Works (Some (Command.Interp file)) result (H.world host.old) (H.world host.new) }
     ensures cause { WorkCause (H.faults host.old) (H.faults host.new) result }
     ensures still_sure { H.sure host.old → H.sure host.new }
     ensures missing { H.sure host.old → IsErrOf result CoreErr.HostFault → LacksFile

@@ -1,9 +1,9 @@
 ghost use Rattle.std.specs.Prelude.{◌≡◌, ◌⊎◌, ◌++◌, [], ◌∷◌, codes, string_bytes, IfOk};
 ghost use Rattle.ib_base.specs.Cause.{Rose};
 ghost use Rattle.ib_base.specs.World.{noted};
-ghost use Rattle.impactc_core.specs.Answers.{IsPlain, NoteCause};
+ghost use Rattle.impactc_core.specs.Answers.{IsPlain, LeavesNote, NoteCause, NoteFor};
 ghost use Rattle.impactc_core.specs.Notes.{note_of, status_of, outcome_status, success_status, refusal_status, success_note, refusal_note};
-ghost use Rattle.impactc_core.specs.Work.{NoteFor, LeavesNote, Leaves, status_behind};
+ghost use Rattle.impactc_core.specs.Work.{Leaves, status_behind};
 
 use crate::{CoreErr, Status, Success};
 use ib_base::{Host, HostErr, Outcome};

@@ -1,26 +1,27 @@
-ghost use Rattle.std.specs.Prelude.{◌≡◌, ℕ, ◌≤◌, List, length, IfOk, IfErr, OnErr, IsErrOf, Some};
-ghost use Rattle.ib_meaning.specs.Agreement.{IsOver};
+ghost use Rattle.std.specs.Prelude.{◌≡◌, ◌≤◌, ◌^◌, length, IfOk, IfErr, OnErr, IsErrOf, Some};
 ghost use Rattle.ib_base.specs.World.{LacksFile};
 ghost use Rattle.ib_run.specs.OverHost.{OverHost};
 ghost use Rattle.c_ast.specs.Cut.{AreTokens};
 ghost use Rattle.c_typed.specs.Program.{Program as Typed};
+ghost use Rattle.wide_core.specs.Meaning.{wide_meaning};
 ghost use Rattle.first_code.specs.Made.{IsShort};
 ghost use Rattle.first_form.specs.Meaning.{source_meaning};
-ghost use Rattle.impactc_core.specs.Answers.{WorkCause, MayChange, Works};
-ghost use Rattle.impactc_core.specs.Notes.{status_of, note_of};
-ghost use Rattle.impactc_core.specs.RunAnswers.{BeginsRun, HasFirstForm, RunAnswer};
-ghost use Rattle.impactc_core.specs.Runs.{BeginsOutput, code_meaning};
-ghost use Rattle.impactc_core.specs.Sources.{HasProgram};
-ghost use Rattle.impactc_core.specs.Work.{EndsCode, IsBreak, RefusesSource, RefusesToRun, RunsProgram, RunsSource};
+ghost use Rattle.impactc_words.specs.declared.words.Command.{Command};
+ghost use Rattle.impactc_core.specs.Answers.{WorkCause, Works};
+ghost use Rattle.impactc_core.specs.RunAnswers.{HasFirstForm};
+ghost use Rattle.impactc_core.specs.Runs.{BeginsOutput, RunsCode, ran_so};
+ghost use Rattle.impactc_core.specs.Sources.{HasProgram, IsSource};
+ghost use Rattle.impactc_core.specs.Work.{IsBreak, RefusesToRun, RunsProgram};
 
 use crate::front::{SourceErr, program_of_tokens, tokens_of};
 use crate::source::read_source;
-use crate::{Command, CoreErr, FileName, SourceFault, Success};
+use crate::{CoreErr, SourceFault, Success};
 use c_ast::Token;
 use first_code::make;
 use first_form::{Program, ReadErr, read};
 use ib_base::{Host, Outcome, Place};
-use machine_desc::Four;
+use impactc_words::{Command, FileName};
+use machine_desc::Machine;
 use std::alloc::Global;
 use wide_core::WideCode;
 use wide_sim::{SimErr, SimOutcome, simulate};
@@ -28,44 +29,58 @@ use wide_sim::{SimErr, SimOutcome, simulate};
 /// How many cycles a program may run.
 const CYCLES: u64 = 100_000_000;
 
-/// Runs code that is over within the cycles.
-#[tactic(auto, using(crate::proofs::Ran::ended, crate::proofs::Ran::reported, crate::proofs::Ran::not_spent, crate::proofs::Ran::begins_output))]
-fn run_code<H: Host>(alloc: Global, code: &WideCode<Four>, host: &mut H) -> Result<Success, CoreErr>
-    requires { (input : List ℕ) → IsOver (code_meaning code.now input 100000000) }
-    ensures ran { IfOk result (λ success. EndsCode code.now success (H.world host.old)
-        (H.world host.new)) }
+/// How a run is noted that may take so many cycles.
+fn ran_so(most: u64, outcome: SimOutcome) -> Success
+    ensures { result ≡ ran_so most outcome }
+{
+    match outcome {
+        SimOutcome::Ended { result, cycles } => Success::Ran {
+            outcome: Outcome::Ended(result),
+            cycles,
+        },
+        SimOutcome::Reported {
+            place,
+            kind,
+            cycles,
+        } => Success::Ran {
+            outcome: Outcome::Faulted { place, kind },
+            cycles,
+        },
+        SimOutcome::Spent => Success::Ran {
+            outcome: Outcome::Spent,
+            cycles: most,
+        },
+    }
+}
+
+/// Runs code for so many cycles at most.
+#[tactic(auto, using(crate::proofs::Ran::runs_code, crate::proofs::Ran::begins_output))]
+fn run_code<M: Machine, H: Host>(
+    alloc: Global,
+    code: &WideCode<M>,
+    host: &mut H,
+    most: u64,
+) -> Result<Success, CoreErr>
+    requires some { 1 ≤ most }
+    requires few { most ≤ 2 ^ 63 }
+    ensures ran { IfOk result (λ success. RunsCode (wide_meaning M.latency_of code.now) most success
+        (H.world host.old) (H.world host.new)) }
     ensures broke { IfErr result IsBreak }
-    ensures printed { OnErr result (OverHost (BeginsOutput (code_meaning code.now))
+    ensures printed { OnErr result (OverHost (BeginsOutput (wide_meaning M.latency_of code.now))
         (H.world host.old) (H.world host.new)) }
     ensures cause { WorkCause (H.faults host.old) (H.faults host.new) result }
     ensures still_sure { H.sure host.old → H.sure host.new }
     ensures never { H.sure host.old → IsErrOf result CoreErr.HostFault → ⊥ }
 {
-    match simulate(alloc, code, host, CYCLES) {
-        Ok(SimOutcome::Ended { result, cycles }) => Ok(Success::Ran {
-            outcome: Outcome::Ended(result),
-            cycles,
-        }),
-        Ok(
-            SimOutcome::Reported {
-                place,
-                kind,
-                cycles,
-            },
-        ) => {
-            Ok(Success::Ran {
-                outcome: Outcome::Faulted { place, kind },
-                cycles,
-            })
-        }
-        Ok(SimOutcome::Spent) => unreachable!(),
+    match simulate(alloc, code, host, most) {
+        Ok(outcome) => Ok(ran_so(most, outcome)),
         Err(SimErr::HostFailed) => Err(CoreErr::HostFault),
         Err(SimErr::NoMemory) => Err(CoreErr::NoMemory),
     }
 }
 
 /// Compiles a program and runs it.
-#[tactic(auto, using(crate::proofs::Ran::runs_program, crate::proofs::Ran::prints_part, crate::proofs::Ran::prints_nothing))]
+#[tactic(auto, using(crate::proofs::Ran::prints_nothing))]
 fn run_program<H: Host>(alloc: Global, program: &Program, host: &mut H) -> Result<Success, CoreErr>
     requires { IsShort program.now }
     ensures ran { IfOk result (λ success. RunsProgram program.now success (H.world host.old)
@@ -78,7 +93,7 @@ fn run_program<H: Host>(alloc: Global, program: &Program, host: &mut H) -> Resul
     ensures never { H.sure host.old → IsErrOf result CoreErr.HostFault → ⊥ }
 {
     match make(alloc, program) {
-        Ok(code) => run_code(alloc, &code, host),
+        Ok(code) => run_code(alloc, &code, host, CYCLES),
         Err(_) => Err(CoreErr::NoMemory),
     }
 }
@@ -132,18 +147,15 @@ fn form_of(alloc: Global, bytes: &[u8]) -> Result<Program, SourceErr>
 }
 
 /// Compiles a source and runs its program.
-#[tactic(auto, using(crate::proofs::Working::runs_source, crate::proofs::Working::refuses_broken, crate::proofs::Working::refuses_source, crate::proofs::Refusing::no_host_fault))]
+#[tactic(auto, using(crate::proofs::Working::works_refused, crate::proofs::Refusing::no_host_fault))]
 fn run_source<H: Host>(
     alloc: Global,
     file: FileName,
     bytes: &[u8],
     host: &mut H,
 ) -> Result<Success, CoreErr>
-    requires { length bytes.now ≤ 1048576 }
-    ensures ran { IfOk result (λ success. RunsSource bytes.now success (H.world host.old)
-        (H.world host.new)) }
-    ensures refused { IfErr result (λ refusal. RefusesSource file (RefusesToRun bytes.now)
-        (BeginsRun bytes.now) refusal (H.world host.old) (H.world host.new)) }
+    requires { IsSource file (H.world host.old) bytes.now }
+    ensures works { Works (Some (Command.Run file)) result (H.world host.old) (H.world host.new) }
     ensures cause { WorkCause (H.faults host.old) (H.faults host.new) result }
     ensures still_sure { H.sure host.old → H.sure host.new }
     ensures never { H.sure host.old → IsErrOf result CoreErr.HostFault → ⊥ }
@@ -155,10 +167,9 @@ fn run_source<H: Host>(
 }
 
 /// The work of `run F`.
-#[tactic(auto, using(crate::proofs::Working::works_source, crate::proofs::Working::works_unread))]
+#[tactic(auto, using(crate::proofs::Refusing::works_unread))]
 pub fn run<H: Host>(alloc: Global, file: FileName, host: &mut H) -> Result<Success, CoreErr>
-    ensures works { Works (RunAnswer file) (MayChange (Some (Command.Run file))) (H.world host.old)
-        (H.world host.new) (status_of result) (note_of result) }
+    ensures works { Works (Some (Command.Run file)) result (H.world host.old) (H.world host.new) }
     ensures cause { WorkCause (H.faults host.old) (H.faults host.new) result }
     ensures still_sure { H.sure host.old → H.sure host.new }
     ensures missing { H.sure host.old → IsErrOf result CoreErr.HostFault → LacksFile

@@ -4,8 +4,9 @@ ghost use Rattle.impactc_core.specs.Answers.{WorkCause};
 ghost use Rattle.impactc_core.specs.Sources.{IsSource};
 ghost use Rattle.impactc_core.specs.Work.{IsReadErr};
 
-use crate::{CoreErr, FileName, Limit};
+use crate::{CoreErr, Limit};
 use ib_base::{Host, HostErr};
+use impactc_words::FileName;
 use std::alloc::Global;
 
 /// The greatest size of a source, in bytes.

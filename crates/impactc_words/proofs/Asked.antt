@@ -1,5 +1,5 @@
 -- Words ask for one command at most.
-use Rattle.std.proofs.Common.{◌≡◌, ℕ, List, [], ◌∷◌, Option, Some, None, refl, sym, ap, ◌∙◌, subst}
+use Rattle.std.proofs.Common.{◌≡◌, ℕ, List, [], ◌∷◌, Some, None, sym, ap, ◌∙◌, subst}
 use Rattle.impactc_words.specs.declared.words.Command.{Command}
 use Rattle.impactc_words.specs.declared.words.Command.TheVariants.{Check, Interp, Run}
 use Rattle.impactc_words.specs.Words.{Ask, AskFor, Give, IsNone, HasParts, Parts, command_name, only_file}

@@ -22,11 +22,11 @@ impl<'a> Model for Arguments<'a> {
     ghost Value = { Parts };
 
     ghost view = { λ given. record {
-        file = option_copied given.file;
-        profile = option_copied given.profile;
-        machine = option_copied given.machine;
-        cycles = option_copied given.cycles;
-        to = option_copied given.to;
+      file = option_copied given.file;
+      profile = option_copied given.profile;
+      machine = option_copied given.machine;
+      cycles = option_copied given.cycles;
+      to = option_copied given.to;
     } };
 }
 

@@ -1,5 +1,5 @@
 use Rattle.std.proofs.Common.{◌≡◌, map, string_bytes, drop}
-use Rattle.impactc_words.specs.Reading.{Progress, behind_words}
+use Rattle.impactc_words.specs.Reading.{behind_words}
 use Rattle.impactc_words.proofs.reader.arguments.Given as goal
 
 abbrev pub invariant-loop-word : goal.invariant-loop-word

@@ -1,4 +1,4 @@
-use Rattle.std.proofs.Common.{List, ℕ, Err}
+use Rattle.std.proofs.Common.{Err}
 use Rattle.std.specs.Prelude.{IsErrOf}
 use Rattle.impactc_words.specs.declared.words.WordsErr.{WordsErr}
 use Rattle.impactc_words.specs.declared.words.WordsErr.TheVariants.{Usage}

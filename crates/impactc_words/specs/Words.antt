@@ -1,7 +1,9 @@
 -- The commands that words ask for.
-use Rattle.std.specs.Prelude.{◌≡◌, ℕ, Bool, true, false, not, ◌==◌, List, [], ◌∷◌, ◌++◌, Option, Some, None, codes, if◌then◌else◌}
+use Rattle.std.specs.Prelude.{◌≡◌, ◌≤◌, ℕ, Bool, true, false, not, ◌==◌, List, [], ◌∷◌, ◌++◌, Option, Some, None, codes, decimal, if◌then◌else◌}
 use Rattle.impactc_words.specs.declared.part.Part.{Part}
 use Rattle.impactc_words.specs.declared.part.Part.TheVariants.{File, Profile, Machine, Cycles, To}
+use Rattle.impactc_words.specs.declared.options.Which.{Which}
+use Rattle.impactc_words.specs.declared.options.Which.TheVariants.{Narrow, Four, Eight}
 use Rattle.impactc_words.specs.declared.words.Command.{Command}
 use Rattle.impactc_words.specs.declared.words.Command.TheVariants.{Check, Interp, Run}
 
@@ -73,6 +75,25 @@ pub record Give (words : List (List ℕ)) (parts : Parts) : Type 0 where
   pub arguments : List Argument
   pub spelled : Spell words arguments
   pub once : (part : Part) → texts_for part arguments ≡ listed (given parts part)
+
+-- ---- values of options
+
+abbrev pub machine_name : Which → List ℕ
+machine_name Narrow = codes "narrow"
+machine_name Four = codes "four"
+machine_name Eight = codes "eight"
+
+-- the machine that is named, and the one of four where none is
+abbrev pub IsMachine : Option (List ℕ) → Which → Type 0
+IsMachine None machine = machine ≡ Four
+IsMachine (Some text) machine = text ≡ machine_name machine
+
+-- how many cycles are given, in decimal without leading zeros, and 100,000,000 where none are
+abbrev pub IsCycles : Option (List ℕ) → ℕ → Type 0
+IsCycles None cycles = cycles ≡ 100000000
+IsCycles (Some text) cycles = (text ≡ decimal cycles) × ((1 ≤ cycles) × (cycles ≤ 1000000000000))
+
+-- ---- commands
 
 -- the word that a command begins with
 abbrev pub command_name : Command → List ℕ

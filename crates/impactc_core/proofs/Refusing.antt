@@ -4,13 +4,14 @@ use Rattle.std.specs.Prelude.{IsErrOf}
 use Rattle.ib_base.specs.World.{World}
 use Rattle.impactc_words.specs.declared.words.Command.{Command}
 use Rattle.impactc_words.specs.declared.words.Command.TheVariants.{Check, Interp, Run}
+use Rattle.impactc_words.specs.Words.{input_of}
 use Rattle.impactc_core.specs.declared.core_err.CoreErr.{CoreErr}
 use Rattle.impactc_core.specs.declared.core_err.CoreErr.TheVariants.{Usage as BadWords, Source, HostFault as Host, NoMemory as Memory, TooLarge as Large}
 use Rattle.impactc_core.specs.declared.core_err.Limit.TheVariants.{Source as SourceBytes, Nesting, Globals, Frame, Operations}
 use Rattle.impactc_core.specs.declared.front.SourceErr.{SourceErr}
 use Rattle.impactc_core.specs.declared.front.SourceErr.TheVariants.{Fault, TooLarge as PastLimit, NoMemory as NoMemoryLeft}
 use Rattle.impactc_core.specs.declared.success.Success.{Success}
-use Rattle.impactc_core.specs.Answers.{IsPlain, MayChange, RefusesInput, Works, input_of}
+use Rattle.impactc_core.specs.Answers.{IsPlain, MayChange, RefusesInput, Works}
 use Rattle.impactc_core.specs.Notes.{status_of}
 use Rattle.impactc_core.specs.Sources.{IsSource, IsRefused}
 use Rattle.impactc_core.specs.Work.{IsReadErr, IsBreak, Refuses, of_file}

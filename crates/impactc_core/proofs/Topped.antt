@@ -3,14 +3,14 @@ use Rattle.std.proofs.Common.{◌≡◌, inl, ℕ, ◌≤◌, List, Option, Some
 use Rattle.ib_base.specs.Cause.{Rose}
 use Rattle.ib_base.specs.World.{World, LacksFile}
 use Rattle.impactc_words.specs.declared.words.Command.{Command}
-use Rattle.impactc_words.specs.Words.{Ask, AskFor}
+use Rattle.impactc_words.specs.Words.{Ask, AskFor, input_of}
 use Rattle.impactc_words.proofs.Asked.{one_asked}
 use Rattle.impactc_core.specs.declared.core_err.CoreErr.{CoreErr}
 use Rattle.impactc_core.specs.declared.core_err.CoreErr.TheVariants.{Usage as BadWords, Source, HostFault as Host, NoMemory as Memory, TooLarge as Large}
 use Rattle.impactc_core.specs.declared.status.Status.{Status}
 use Rattle.impactc_core.specs.declared.status.Status.TheVariants.{Done, Usage, SourceRefused, ProfileRefused, CodeRefused, HostFault, NoMemory, TooLarge, ProgramFault, CyclesSpent}
 use Rattle.impactc_core.specs.declared.success.Success.{Success}
-use Rattle.impactc_core.specs.Answers.{IsPlain, MayChange, Works, Answers, NoteFor, LeavesNote, LacksInput, IsUnfailed, WorkCause, NoteCause, IsCaused, input_of}
+use Rattle.impactc_core.specs.Answers.{IsPlain, MayChange, Works, Answers, NoteFor, LeavesNote, LacksInput, IsUnfailed, WorkCause, NoteCause, IsCaused}
 use Rattle.impactc_core.specs.Notes.{status_of}
 use Rattle.impactc_core.proofs.Plain.{success_plain}
 

@@ -6,7 +6,7 @@ use Rattle.c_typed.specs.Program.{Program as Typed}
 use Rattle.first_form.specs.declared.program.Program.{Program}
 use Rattle.impactc_words.specs.declared.words.Command.{Command}
 use Rattle.impactc_words.specs.declared.words.Command.TheVariants.{Check, Interp, Run}
-use Rattle.impactc_words.specs.Words.{AskFor}
+use Rattle.impactc_words.specs.Words.{AskFor, input_of}
 use Rattle.impactc_core.specs.declared.core_err.CoreErr.{CoreErr}
 use Rattle.impactc_core.specs.declared.core_err.CoreErr.TheVariants.{Usage as BadWords, HostFault as Host, NoMemory as Memory}
 use Rattle.impactc_core.specs.declared.status.Status.{Status}
@@ -25,12 +25,6 @@ IsPlain NoMemory = ⊥
 IsPlain status = ⊤
 
 -- ---- the commands: each has a line in the following tables, and its records in a file of its own
-
--- the file that it reads
-abbrev pub input_of : Command → List ℕ
-input_of (Check file) = file
-input_of (Interp file) = file
-input_of (Run file) = file
 
 -- its work is done, and came out so
 abbrev pub Succeeds : Command → Success → World → World → Type 0

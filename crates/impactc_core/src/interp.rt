@@ -1,5 +1,4 @@
 ghost use Rattle.std.specs.Prelude.{◌≡◌, IfOk, IfErr, OnErr, IsErrOf, Some};
-ghost use Rattle.ib_base.specs.World.{LacksFile};
 ghost use Rattle.ib_run.specs.OverHost.{OverHost};
 ghost use Rattle.c_program.specs.Checked.{program};
 ghost use Rattle.c_eval.specs.Running.{Begins};
@@ -9,7 +8,6 @@ ghost use Rattle.impactc_core.specs.Sources.{IsSource};
 ghost use Rattle.impactc_core.specs.Work.{Interprets, IsBreak};
 
 use crate::front::program_of;
-use crate::source::read_source;
 use crate::{CoreErr, Success};
 use c_eval::interpret;
 use c_program::Program;
@@ -43,9 +41,9 @@ fn interpret_program<H: Host>(
     }
 }
 
-/// Judges a source and runs its program by its meaning.
+/// The work of `interp F` on the source of F.
 #[tactic(auto, using(crate::proofs::Refusing::works_refused, crate::proofs::Refusing::no_host_fault))]
-fn interpret_source<H: Host>(
+pub fn interp<H: Host>(
     alloc: Global,
     file: FileName,
     bytes: &[u8],
@@ -60,20 +58,5 @@ fn interpret_source<H: Host>(
     match program_of(alloc, bytes) {
         Ok(checked) => interpret_program(alloc, &checked, host),
         Err(refusal) => Err(refusal.of_file(file)),
-    }
-}
-
-/// The work of `interp F`.
-#[tactic(auto, using(crate::proofs::Refusing::works_unread))]
-pub fn interp<H: Host>(alloc: Global, file: FileName, host: &mut H) -> Result<Success, CoreErr>
-    ensures works { Works (Some (Command.Interp file)) result (H.world host.old) (H.world host.new) }
-    ensures cause { WorkCause (H.faults host.old) (H.faults host.new) result }
-    ensures still_sure { H.sure host.old → H.sure host.new }
-    ensures missing { H.sure host.old → IsErrOf result CoreErr.HostFault → LacksFile
-        (H.world host.old) file }
-{
-    match read_source(alloc, &file, host) {
-        Ok(bytes) => interpret_source(alloc, file, bytes.as_slice(), host),
-        Err(refusal) => Err(refusal),
     }
 }

@@ -11,6 +11,7 @@ mod source;
 mod status;
 mod success;
 mod top;
+mod work;
 
 pub use core_err::{CoreErr, Limit, SourceFault};
 pub use front::{SourceErr, program_of};

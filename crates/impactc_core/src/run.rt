@@ -1,5 +1,4 @@
 ghost use Rattle.std.specs.Prelude.{◌≡◌, ◌≤◌, ◌^◌, length, IfOk, IfErr, OnErr, IsErrOf, Some};
-ghost use Rattle.ib_base.specs.World.{LacksFile};
 ghost use Rattle.ib_run.specs.OverHost.{OverHost};
 ghost use Rattle.c_ast.specs.Cut.{AreTokens};
 ghost use Rattle.c_typed.specs.Program.{Program as Typed};
@@ -14,7 +13,6 @@ ghost use Rattle.impactc_core.specs.Sources.{HasProgram, IsSource};
 ghost use Rattle.impactc_core.specs.Work.{IsBreak, RefusesToRun, RunsProgram};
 
 use crate::front::{SourceErr, program_of_tokens, tokens_of};
-use crate::source::read_source;
 use crate::{CoreErr, SourceFault, Success};
 use c_ast::Token;
 use first_code::make;
@@ -146,9 +144,9 @@ fn form_of(alloc: Global, bytes: &[u8]) -> Result<Program, SourceErr>
     }
 }
 
-/// Compiles a source and runs its program.
+/// The work of `run F` on the source of F.
 #[tactic(auto, using(crate::proofs::Working::works_refused, crate::proofs::Refusing::no_host_fault))]
-fn run_source<H: Host>(
+pub fn run<H: Host>(
     alloc: Global,
     file: FileName,
     bytes: &[u8],
@@ -163,20 +161,5 @@ fn run_source<H: Host>(
     match form_of(alloc, bytes) {
         Ok(program) => run_program(alloc, &program, host),
         Err(refusal) => Err(refusal.of_file(file)),
-    }
-}
-
-/// The work of `run F`.
-#[tactic(auto, using(crate::proofs::Refusing::works_unread))]
-pub fn run<H: Host>(alloc: Global, file: FileName, host: &mut H) -> Result<Success, CoreErr>
-    ensures works { Works (Some (Command.Run file)) result (H.world host.old) (H.world host.new) }
-    ensures cause { WorkCause (H.faults host.old) (H.faults host.new) result }
-    ensures still_sure { H.sure host.old → H.sure host.new }
-    ensures missing { H.sure host.old → IsErrOf result CoreErr.HostFault → LacksFile
-        (H.world host.old) file }
-{
-    match read_source(alloc, &file, host) {
-        Ok(bytes) => run_source(alloc, file, bytes.as_slice(), host),
-        Err(refusal) => Err(refusal),
     }
 }

@@ -5,13 +5,11 @@ ghost use Rattle.impactc_words.specs.declared.words.Command.{Command};
 ghost use Rattle.impactc_core.specs.Answers.{LacksInput, CanWork, HasWorked, Works, Answers, IsCaused, WorkCause};
 ghost use Rattle.impactc_core.specs.Notes.{status_of};
 
-use crate::check::check;
-use crate::interp::interp;
 use crate::notes::finish;
-use crate::run::run;
+use crate::work::work;
 use crate::{CoreErr, Status, Success};
 use ib_base::Host;
-use impactc_words::{Command, WordsErr, read_words};
+use impactc_words::{WordsErr, read_words};
 use std::alloc::Global;
 
 /// The compiler as a whole: does what the words after the program's name ask for, over a host, and leaves one note.
@@ -34,11 +32,11 @@ pub fn impactc<H: Host>(alloc: Global, words: &[String], host: &mut H) -> Status
         HasWorked command result ⊎ ((result ≡ Status.NoMemory)
         ⊎ Rose (H.faults host.old) (H.faults host.new)) }
 {
-    let work = perform(alloc, words, host);
-    finish(alloc, host, &work)
+    let done = perform(alloc, words, host);
+    finish(alloc, host, &done)
 }
 
-/// The work of the command, all but its note.
+/// What the words ask for, all but its note.
 #[tactic(auto, using(crate::proofs::Topped::works_usage, crate::proofs::Topped::works_no_memory, crate::proofs::Topped::lacks_input))]
 fn perform<H: Host>(alloc: Global, words: &[String], host: &mut H) -> Result<Success, CoreErr>
     ensures works { (read : Option Command) → Ask (map string_bytes words.now) read →
@@ -49,9 +47,7 @@ fn perform<H: Host>(alloc: Global, words: &[String], host: &mut H) -> Result<Suc
         LacksInput (map string_bytes words.now) (H.world host.old) }
 {
     match read_words(alloc, words) {
-        Ok(Command::Check { file }) => check(alloc, file, host),
-        Ok(Command::Interp { file }) => interp(alloc, file, host),
-        Ok(Command::Run { file }) => run(alloc, file, host),
+        Ok(command) => work(alloc, command, host),
         Err(WordsErr::Usage) => Err(CoreErr::Usage),
         Err(WordsErr::NoMemory) => Err(CoreErr::NoMemory),
     }

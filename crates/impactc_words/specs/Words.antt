@@ -101,6 +101,12 @@ command_name (Check file) = codes "check"
 command_name (Interp file) = codes "interp"
 command_name (Run file) = codes "run"
 
+-- the file that a command reads
+abbrev pub input_of : Command → List ℕ
+input_of (Check file) = file
+input_of (Interp file) = file
+input_of (Run file) = file
+
 -- a command's parts
 abbrev pub HasParts : Command → Parts → Type 0
 HasParts (Check file) parts = parts ≡ only_file file

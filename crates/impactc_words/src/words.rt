@@ -1,5 +1,5 @@
 ghost use Rattle.std.specs.Prelude.{◌≡◌, List, ℕ, [], ◌∷◌, map, string_bytes, IfOk, IsErrOf, MatchOption, Some, None};
-ghost use Rattle.impactc_words.specs.Words.{AskFor, Ask, IsNone, only_file, HasParts, command_name};
+ghost use Rattle.impactc_words.specs.Words.{AskFor, Ask, IsNone, only_file, HasParts, command_name, input_of};
 
 use crate::FileName;
 use crate::arguments::Arguments;
@@ -16,6 +16,17 @@ pub enum Command {
     Interp { file: FileName },
     /// Compile the file and run it.
     Run { file: FileName },
+}
+
+impl Command {
+    /// The file that the command reads.
+    pub fn input(&self) -> &FileName
+        ensures { result.now ≡ input_of self.now }
+    {
+        match self {
+            Command::Check { file } | Command::Interp { file } | Command::Run { file } => file,
+        }
+    }
 }
 
 /// Why words name no command.

@@ -1,13 +1,9 @@
-use Rattle.impactc_words.specs.declared.words.Command.TheVariants.{Interp}
-use Rattle.impactc_core.proofs.Refusing.{still_source, works_behind}
+use Rattle.c_program.specs.Checked.{program}
+use Rattle.impactc_core.proofs.Interpreting.{works_interpreted}
 use Rattle.impactc_core.proofs.interp.interp.Goals as goal
-
-pub interpret_source-requires : goal.interpret_source-requires
-interpret_source-requires g c =
-    still_source c.args.file c.in-Ok.bytes.items c.as_slice.result.now (g.H.Host.world c.args.host.now) (g.H.Host.world c.read_source.new.host)
-    c.in-Ok.ensures.source c.as_slice.ensures.value c.read_source.ensures.same_world
 
 pub returns-in-Ok-clause-works : goal.returns-in-Ok-clause-works
 returns-in-Ok-clause-works g c =
-    works_behind (Interp c.args.file) c.interpret_source.result (g.H.Host.world c.args.host.now) (g.H.Host.world c.read_source.new.host)
-    (g.H.Host.world c.interpret_source.new.host) c.read_source.ensures.same_world c.interpret_source.ensures.works
+    let ran = c.interpret_program in
+    works_interpreted c.args.file c.args.bytes.now (program c.in-Ok.checked) ran.result (g.H.Host.world c.args.host.now) (g.H.Host.world ran.new.host)
+    c.requires c.in-Ok.ensures.program ran.ensures.means ran.ensures.broke ran.ensures.printed

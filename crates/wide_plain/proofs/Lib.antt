@@ -1,0 +1,4 @@
+pub mod Emitted
+pub mod Functions
+pub mod Lengths
+pub mod Tables

@@ -1,0 +1,13 @@
+//! Makes plain code: a three-address program in source order, one operation a word, none flagged.
+#![tactic(auto)]
+
+mod acts;
+mod ends;
+mod function;
+mod homes;
+mod lines;
+mod program;
+mod sizes;
+mod starts;
+
+pub use program::plain_raw;

@@ -11,7 +11,7 @@ use Rattle.tac_core.specs.Meaning.{place_of}
 use Rattle.wide_core.specs.declared.code.Word.{Word}
 use Rattle.wide_core.specs.declared.code.WideAct.TheVariants.{Do}
 use Rattle.plain_code.specs.Plain.{Item, numbered, reload, reloads, spread, end_items, rest_items, block_items, all_items}
-use Rattle.wide_plain.specs.declared.lines.Lines.{Lines}
+use Rattle.wide_plain.specs.declared.emitter.Emitter.{Emitter}
 use Rattle.wide_plain.specs.Emitted.{Emits}
 
 pub numbered_append : (n : ℕ) (xs ys : List Item) → numbered n (xs ++ ys) ≡ numbered n xs ++ numbered (n + length xs) ys
@@ -21,13 +21,13 @@ numbered_append n (x ∷ xs) ys =
     ap (λ (ws : List Word). (record { ops = record { number = n; home = x.home; flagged = false; act = x.act } ∷ [] }) ∷ ws)
     (numbered_append (suc n) xs ys ∙ ap (λ m. numbered (suc n) xs ++ numbered m ys) e)
 
-pub emits_none : (s : Lines) → Emits [] s s
+pub emits_none : (s : Emitter) → Emits [] s s
 emits_none s = record {
   words = sym (append-nil s.words);
   next = omega arith;
 }
 
-pub emits_then : (xs ys : List Item) (a b c : Lines) → Emits xs a b → Emits ys b c → Emits (xs ++ ys) a c
+pub emits_then : (xs ys : List Item) (a b c : Emitter) → Emits xs a b → Emits ys b c → Emits (xs ++ ys) a c
 emits_then xs ys a b c f g = record {
   words =
       g.words ∙ ap (λ (ws : List Word). ws ++ numbered b.number ys) f.words ∙ append_assoc a.words (numbered a.number xs) (numbered b.number ys)
@@ -36,11 +36,11 @@ emits_then xs ys a b c f g = record {
 }
 
 -- a step that may fail, behind what was added
-pub emits_onto : {T E : Type 0} (r : Result T E) (xs xs' ys ys' : List Item) (a b c : Lines) → Emits xs' a b → OnOk r (Emits ys' b c) → xs' ≡ xs → ys' ≡ ys → OnOk r (Emits (xs ++ ys) a c)
+pub emits_onto : {T E : Type 0} (r : Result T E) (xs xs' ys ys' : List Item) (a b c : Emitter) → Emits xs' a b → OnOk r (Emits ys' b c) → xs' ≡ xs → ys' ≡ ys → OnOk r (Emits (xs ++ ys) a c)
 emits_onto (Ok t) xs xs' ys ys' a b c f g e h = emits_then xs ys a b c (subst (λ zs. Emits zs a b) e f) (subst (λ zs. Emits zs b c) h g)
 emits_onto (Err x) xs xs' ys ys' a b c f g e h = tt
 
-pub on_same : {T E : Type 0} (r : Result T E) (xs ys : List Item) (a b : Lines) → OnOk r (Emits xs a b) → xs ≡ ys → OnOk r (Emits ys a b)
+pub on_same : {T E : Type 0} (r : Result T E) (xs ys : List Item) (a b : Emitter) → OnOk r (Emits xs a b) → xs ≡ ys → OnOk r (Emits ys a b)
 on_same r xs ys a b h e = subst (λ zs. OnOk r (Emits zs a b)) e h
 
 -- ---- in a loop
@@ -51,11 +51,11 @@ module _ {X : Type 0} (f : X → List Item) where
       let e : take (i + 1) xs ≡ take i xs ++ x ∷ [] = take_more xs i x lt ∙ ap (λ y. take i xs ++ y ∷ []) (sym is) in
       ap (λ ys. flat_map f (take i xs) ++ ys) (sym (append-nil (f x))) ∙ sym (flat_map-append f (take i xs) (x ∷ [])) ∙ ap (flat_map f) (sym e)
 
-  pub emits_more : (xs : List X) (i : ℕ) (x : X) (a b c : Lines) → i < length xs → x ≡ get_or xs i x → Emits (flat_map f (take i xs)) a b → Emits (f x) b c → Emits (flat_map f (take (i + 1) xs)) a c
+  pub emits_more : (xs : List X) (i : ℕ) (x : X) (a b c : Emitter) → i < length xs → x ≡ get_or xs i x → Emits (flat_map f (take i xs)) a b → Emits (f x) b c → Emits (flat_map f (take (i + 1) xs)) a c
   emits_more xs i x a b c lt is done now =
       subst (λ ys. Emits ys a c) (flat_more xs i x lt is) (emits_then (flat_map f (take i xs)) (f x) a b c done now)
 
-  pub emits_all : (xs : List X) (i : ℕ) (a b : Lines) → length xs ≤ i → Emits (flat_map f (take i xs)) a b → Emits (flat_map f xs) a b
+  pub emits_all : (xs : List X) (i : ℕ) (a b : Emitter) → length xs ≤ i → Emits (flat_map f (take i xs)) a b → Emits (flat_map f xs) a b
   emits_all xs i a b le done = subst (λ ys. Emits (flat_map f ys) a b) (take_all i xs le) done
 
 -- ---- the definition's lists as those of loops
@@ -79,7 +79,7 @@ module _ (low : ℕ) where
     all_flat [] = refl
     all_flat (b ∷ bs) = ap (λ ys. block_items low places at b ++ ys) (all_flat bs)
 
-    pub ops_more : (ops ops' : List TacOp) (i : ℕ) (d : TacOp) (home : Place) (a b c : Lines) → ops' ≡ ops → i < length ops' → home ≡ place_of places (get_or ops' i d).stmt → Emits (flat_map op_items (take i ops)) a b → Emits (spread low (λ l. l) home (Do (get_or ops' i d).act)) b c → Emits (flat_map op_items (take (i + 1) ops)) a c
+    pub ops_more : (ops ops' : List TacOp) (i : ℕ) (d : TacOp) (home : Place) (a b c : Emitter) → ops' ≡ ops → i < length ops' → home ≡ place_of places (get_or ops' i d).stmt → Emits (flat_map op_items (take i ops)) a b → Emits (spread low (λ l. l) home (Do (get_or ops' i d).act)) b c → Emits (flat_map op_items (take (i + 1) ops)) a c
     ops_more ops ops' i d home a b c e lt is done now =
         let there : i < length ops = subst (λ os. i < length os) e lt in
         let here : Emits (op_items (get_or ops' i d)) b c = subst (λ h. Emits (spread low (λ l. l) h (Do (get_or ops' i d).act)) b c) is now in

@@ -14,8 +14,8 @@ use Rattle.tac_core.specs.Rules.{IsValid, IsGoodFunc, IsGoodBlock, IsGoodEnd}
 use Rattle.tac_core.proofs.Lists.{All-get}
 use Rattle.wide_core.specs.declared.code.WideFunc.{WideFunc}
 use Rattle.wide_core.specs.declared.code.RawCode.{RawCode}
-use Rattle.plain_code.specs.Plain.{numbered, start, all_items, func_items, func_from, funcs_from, plain}
-use Rattle.wide_plain.specs.declared.lines.Lines.{Lines}
+use Rattle.plain_code.specs.Plain.{numbered, start, all_items, func_items, func_from, funcs_from, plain, HasFewSlots}
+use Rattle.wide_plain.specs.declared.emitter.Emitter.{Emitter}
 use Rattle.wide_plain.specs.declared.starts.Starts.{Starts}
 use Rattle.wide_plain.specs.Emitted.{Emits, AreStarts, word_of, args_of, PassFew}
 use Rattle.wide_plain.specs.Made.{IsPlainFunc, NeedsFewSlots}
@@ -24,7 +24,7 @@ use Rattle.wide_plain.specs.Made.{IsPlainFunc, NeedsFewSlots}
 
 module _ (low : ℕ) (places : List Place) where
   -- the words of all its blocks are the function's
-  pub blocks_made : (n : ℕ) (f : TacFunc) (starts : Starts) (a b : Lines) → a.words ≡ [] → a.number ≡ n → AreStarts low f.blocks starts → Emits (all_items low places (word_of starts) f.blocks) a b → (b.words ≡ numbered n (func_items low places f)) × (b.number ≡ n + length (func_items low places f))
+  pub blocks_made : (n : ℕ) (f : TacFunc) (starts : Starts) (a b : Emitter) → a.words ≡ [] → a.number ≡ n → AreStarts low f.blocks starts → Emits (all_items low places (word_of starts) f.blocks) a b → (b.words ≡ numbered n (func_items low places f)) × (b.number ≡ n + length (func_items low places f))
   blocks_made n f starts a b empty first table made =
       let at : word_of starts ≡ start low places f.blocks = fun_ext (λ l. table.each places l) in
       let e : all_items low places (word_of starts) f.blocks ≡ func_items low places f = ap (λ to. all_items low places to f.blocks) at in (
@@ -88,6 +88,10 @@ plain_made p low low' places fs image funcs l at of e made =
     let s : low ≡ low + 8 - 8 = omega arith in
     ap₂ code_of e
     (made ∙ ap (λ n. funcs_from n places 1 fs) (l ∙ s) ∙ ap (λ ps. funcs_from (low + 8 - 8) ps 1 fs) at ∙ ap (funcs_from (low + 8 - 8) p.places 1) of)
+
+pub few_made : (p : Program) (low : ℕ) (fs : List TacFunc) → fs ≡ p.funcs → All (NeedsFewSlots low) fs → HasFewSlots (low + 8) p
+few_made p low fs of few =
+    subst (λ (gs : List TacFunc). All (λ (f : TacFunc). f.regs - (low + 8 - 8) ≤ 1048576) gs) of (λ k d lt. let e : low + 8 - 8 ≡ low = omega arith in subst (λ n. (get_or fs k d).regs - n ≤ 1048576) (sym e) (few k d lt))
 
 -- ---- a valid program passes few registers
 

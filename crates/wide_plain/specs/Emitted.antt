@@ -7,11 +7,11 @@ use Rattle.tac_core.specs.declared.code.End.TheVariants.{Jump, Branch, Call, Ret
 use Rattle.tac_core.specs.declared.code.Block.{Block}
 use Rattle.tac_core.specs.declared.code.TacFunc.{TacFunc}
 use Rattle.plain_code.specs.Plain.{Item, numbered, start}
-use Rattle.wide_plain.specs.declared.lines.Lines.{Lines}
+use Rattle.wide_plain.specs.declared.emitter.Emitter.{Emitter}
 use Rattle.wide_plain.specs.declared.starts.Starts.{Starts}
 
 -- the words of these operations, numbered on, are added
-pub record Emits (items : List Item) (before after : Lines) : Type 0 where
+pub record Emits (items : List Item) (before after : Emitter) : Type 0 where
   pub words : after.words ≡ before.words ++ numbered before.number items
   pub next : after.number ≡ before.number + length items
 

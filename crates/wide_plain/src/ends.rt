@@ -5,8 +5,8 @@ ghost use Rattle.wide_core.specs.Renamed.{result_moved};
 ghost use Rattle.wide_core.specs.declared.code.WideAct.{WideAct};
 ghost use Rattle.wide_plain.specs.Emitted.{Emits, args_of, word_of};
 
+use crate::emitter::Emitter;
 use crate::homes::Homes;
-use crate::lines::Lines;
 use crate::starts::Starts;
 use ib_base::Place;
 use sqlite_items::Items;
@@ -38,8 +38,8 @@ impl Homes {
     }
 }
 
-impl Lines {
-    fn append_branch(
+impl Emitter {
+    fn emit_branch(
         &mut self,
         alloc: Global,
         homes: Homes,
@@ -51,11 +51,11 @@ impl Lines {
     {
         let sources = [reg];
         let from = homes.found_in(&sources, reg);
-        self.append_reloads(alloc, homes, home, &sources)?;
-        self.append(alloc, home, WideAct::Branch { from, to })
+        self.emit_reloads(alloc, homes, home, &sources)?;
+        self.emit(alloc, home, WideAct::Branch { from, to })
     }
 
-    fn append_call(
+    fn emit_call(
         &mut self,
         alloc: Global,
         homes: Homes,
@@ -68,10 +68,10 @@ impl Lines {
         requires { length args.now ≤ 8 }
         ensures { OnOk result (Emits (reloads homes.low home args.now args.now ++ item home (WideAct.Call (result_moved (place homes.low) (reg_of dest)) func next (map (found_in homes.low args.now) args.now)) ∷ []) self.old self.new) }
     {
-        self.append_reloads(alloc, homes, home, args)?;
+        self.emit_reloads(alloc, homes, home, args)?;
         let args = homes.all_found(alloc, args)?;
         let result = homes.result(dest);
-        self.append(
+        self.emit(
             alloc,
             home,
             WideAct::Call {
@@ -83,7 +83,7 @@ impl Lines {
         )
     }
 
-    fn append_return(
+    fn emit_return(
         &mut self,
         alloc: Global,
         homes: Homes,
@@ -93,16 +93,16 @@ impl Lines {
         ensures { OnOk result (Emits (spread homes.low (λ l. l) home (WideAct.Return reg)) self.old self.new) }
     {
         let Some(reg) = reg else {
-            return self.append(alloc, home, WideAct::Return(None));
+            return self.emit(alloc, home, WideAct::Return(None));
         };
         let sources = [reg];
         let from = homes.found_in(&sources, reg);
-        self.append_reloads(alloc, homes, home, &sources)?;
-        self.append(alloc, home, WideAct::Return(Some(from)))
+        self.emit_reloads(alloc, homes, home, &sources)?;
+        self.emit(alloc, home, WideAct::Return(Some(from)))
     }
 
-    /// Appends the end of a block.
-    pub(crate) fn append_end(
+    /// Emits the end of a block.
+    pub(crate) fn emit_end(
         &mut self,
         alloc: Global,
         homes: Homes,
@@ -116,13 +116,13 @@ impl Lines {
         match end {
             End::Jump(next) => {
                 let to = starts.word_of(*next);
-                self.append(alloc, home, WideAct::Jump { to })
+                self.emit(alloc, home, WideAct::Jump { to })
             }
             End::Branch { reg, yes, no } => {
                 let to = starts.word_of(*yes);
-                self.append_branch(alloc, homes, home, *reg, to)?;
+                self.emit_branch(alloc, homes, home, *reg, to)?;
                 let to = starts.word_of(*no);
-                self.append(alloc, home, WideAct::Jump { to })
+                self.emit(alloc, home, WideAct::Jump { to })
             }
             End::Call {
                 dest,
@@ -131,9 +131,9 @@ impl Lines {
                 next,
             } => {
                 let next = starts.word_of(*next);
-                self.append_call(alloc, homes, home, *dest, *func, args.list(), next)
+                self.emit_call(alloc, homes, home, *dest, *func, args.list(), next)
             }
-            End::Ret(reg) => self.append_return(alloc, homes, home, *reg),
+            End::Ret(reg) => self.emit_return(alloc, homes, home, *reg),
         }
     }
 }

@@ -5,8 +5,8 @@ ghost use Rattle.plain_code.specs.Plain.{all_items, block_items, place};
 ghost use Rattle.wide_plain.specs.Emitted.{Emits, PassesFew, word_of};
 ghost use Rattle.wide_plain.specs.Made.{IsPlainFunc, NeedsFewSlots};
 
+use crate::emitter::Emitter;
 use crate::homes::Homes;
-use crate::lines::Lines;
 use crate::starts::Starts;
 use ib_base::Place;
 use sqlite_items::Items;
@@ -30,9 +30,9 @@ fn place_of(places: &[Place], stmt: u32) -> Place
     }
 }
 
-impl Lines {
-    /// Appends a block: its operations, and its end.
-    fn append_block(
+impl Emitter {
+    /// Emits a block: its operations, and its end.
+    fn emit_block(
         &mut self,
         alloc: Global,
         homes: Homes,
@@ -45,13 +45,13 @@ impl Lines {
     {
         for op in block.ops.as_slice() {
             let home = place_of(places, op.stmt);
-            self.append_act(alloc, homes, home, op.act)?;
+            self.emit_act(alloc, homes, home, op.act)?;
         }
         let home = place_of(places, block.end_stmt);
-        self.append_end(alloc, homes, starts, home, &block.end)
+        self.emit_end(alloc, homes, starts, home, &block.end)
     }
 
-    fn append_blocks(
+    fn emit_blocks(
         &mut self,
         alloc: Global,
         homes: Homes,
@@ -63,7 +63,7 @@ impl Lines {
         ensures { OnOk result (Emits (all_items homes.low places.now (word_of starts.now) blocks.now) self.old self.new) }
     {
         for block in blocks {
-            self.append_block(alloc, homes, places, starts, block)?;
+            self.emit_block(alloc, homes, places, starts, block)?;
         }
         Ok(())
     }
@@ -97,12 +97,12 @@ pub(crate) fn plain_func(
     let name = func.name.copy(alloc)?;
     let params = homes.all_places(alloc, func.params.as_slice())?;
     let starts = Starts::of_blocks(alloc, homes, func.blocks.as_slice())?;
-    let mut lines = Lines::from_number(alloc, number);
-    lines.append_blocks(alloc, homes, places, &starts, func.blocks.as_slice())?;
-    let Lines {
+    let mut emitter = Emitter::from_number(alloc, number);
+    emitter.emit_blocks(alloc, homes, places, &starts, func.blocks.as_slice())?;
+    let Emitter {
         words,
         number: next,
-    } = lines;
+    } = emitter;
     let func = WideFunc {
         name,
         params,

@@ -1,8 +1,12 @@
 ghost use Rattle.std.specs.Prelude.{◌≡◌, ◌≤◌, ◌+◌, ◌-◌, ◌<◌, length, IfOk};
 ghost use Rattle.plain_code.specs.Plain.{found_in, index, left_in, place};
 
+use machine_desc::Machine;
 use std::alloc::AllocError;
 use wide_core::Loc;
+
+/// So many of a machine's registers carry values of slots.
+const CARRIERS: usize = 8;
 
 /// So many slots a function of valid code may have.
 const MOST_SLOTS: u32 = 1_048_576;
@@ -16,11 +20,13 @@ pub(crate) struct Homes {
 }
 
 impl Homes {
-    pub(crate) fn below(low: u32) -> Homes
-        requires { low ≤ 1048576 }
-        ensures { result.low ≡ low }
+    /// The homes on the machine `M`.
+    pub(crate) fn of<M: Machine>() -> Homes
+        ensures { result.low + 8 ≡ M.REGS }
     {
-        Homes { low }
+        Homes {
+            low: (M::REGS - CARRIERS) as u32,
+        }
     }
 
     /// Where a register lives.

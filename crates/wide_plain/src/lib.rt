@@ -2,12 +2,12 @@
 #![tactic(auto)]
 
 mod acts;
+mod emitter;
 mod ends;
 mod function;
 mod homes;
-mod lines;
 mod program;
 mod sizes;
 mod starts;
 
-pub use program::plain_raw;
+pub use program::plain;

@@ -1,16 +1,22 @@
-ghost use Rattle.std.specs.Prelude.{◌≡◌, ◌≤◌, ◌+◌, IfOk, OnOk};
+ghost use Rattle.std.specs.Prelude.{◌≡◌, ◌+◌, ◌*◌, ◌^◌, IfOk, OnOk};
 ghost use Rattle.std.specs.List.{All};
-ghost use Rattle.plain_code.specs.Plain.{funcs_from, plain};
+ghost use Rattle.ib_meaning.specs.Agreement.{Agrees, Within};
+ghost use Rattle.tac_core.specs.Meaning.{tac_meaning};
+ghost use Rattle.tac_core.specs.Rules.{IsValid};
+ghost use Rattle.wide_core.specs.Meaning.{wide_meaning};
+ghost use Rattle.wide_core.specs.Valid.{IsValid as IsValidCode, limits};
+ghost use Rattle.plain_code.specs.Plain.{HasFewSlots, funcs_from, plain};
 ghost use Rattle.wide_plain.specs.Emitted.{PassFew};
 ghost use Rattle.wide_plain.specs.Made.{NeedsFewSlots};
 
 use crate::function::{PlainFunc, plain_func};
 use crate::homes::Homes;
 use ib_base::Place;
+use machine_desc::Machine;
 use sqlite_items::Items;
 use std::alloc::{AllocError, Global};
 use tac_core::{TacFunc, TacProgram};
-use wide_core::{RawCode, WideFunc};
+use wide_core::{RawCode, WideCode, WideFunc};
 
 fn plain_funcs(
     alloc: Global,
@@ -33,17 +39,27 @@ fn plain_funcs(
     Ok(list)
 }
 
-/// The program's code in source order for a machine with eight registers more than `low`, one operation in each word and none flagged.
-///
-/// A program whose operations do not find numbers of 32 bits, or a function that needs more slots than valid code may
-/// have, finds no memory.
-pub fn plain_raw(alloc: Global, low: u32, tac: &TacProgram) -> Result<RawCode, AllocError>
-    requires { low ≤ 1048576 }
-    ensures code { IfOk result (λ code. code ≡ plain (low + 8) tac.now) }
-    ensures few { OnOk result (All (NeedsFewSlots low) tac.now.funcs) }
+fn plain_raw(alloc: Global, homes: Homes, tac: &TacProgram) -> Result<RawCode, AllocError>
+    ensures code { IfOk result (λ code. code ≡ plain (homes.low + 8) tac.now) }
+    ensures few { OnOk result (HasFewSlots (homes.low + 8) tac.now) }
+    ensures given { OnOk result (IsValid tac.now) }
 {
-    let homes = Homes::below(low);
     let image = Items::from_slice(alloc, tac.image())?;
     let funcs = plain_funcs(alloc, homes, tac.places(), tac.funcs())?;
     Ok(RawCode { image, funcs })
+}
+
+/// The program's code in source order, one operation in each word and none flagged.
+///
+/// Numbers of words and operations have 32 bits. A program that would need more finds no memory, as does a function that
+/// would need more slots than valid code may have.
+pub fn plain<M: Machine>(alloc: Global, tac: &TacProgram) -> Result<WideCode<M>, AllocError>
+    ensures code { IfOk result (λ code. code ≡ plain M.REGS tac.now) }
+    ensures valid { IfOk result (IsValidCode (limits M.WIDTH M.REGS M.units_of)) }
+    ensures agrees { IfOk result (λ code. Agrees (tac_meaning tac.now) (wide_meaning M.latency_of code)) }
+    ensures within { IfOk result (λ code. Within (λ k. 2 ^ 8 * (k + 1)) (tac_meaning tac.now) (wide_meaning M.latency_of code)) }
+{
+    let raw = plain_raw(alloc, Homes::of::<M>(), tac)?;
+    let code = WideCode::keep(raw);
+    Ok(code)
 }

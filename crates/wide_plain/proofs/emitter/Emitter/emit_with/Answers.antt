@@ -4,7 +4,7 @@ use Rattle.wide_core.specs.Renamed.{act_moved}
 use Rattle.wide_core.specs.declared.code.WideAct.TheVariants.{Do}
 use Rattle.plain_code.specs.Plain.{found_in, item, left_in, reloads, spill}
 use Rattle.wide_plain.proofs.Emitted.{emits_onto}
-use Rattle.wide_plain.proofs.lines.Lines.append_with.Goals as goal
+use Rattle.wide_plain.proofs.emitter.Emitter.emit_with.Goals as goal
 
 pub returns : goal.returns
 returns c =
@@ -13,8 +13,8 @@ returns c =
     let all = c.args.sources.now in
     let moved = item home (Do (act_moved (found_in low all) (left_in low) c.args.act)) ∷ [] in
     let behind = spill low home (target c.args.act) in
-    let r = c.append_spill.result in
-    emits_onto r (reloads low home all all) _ (moved ++ behind) _ c.args.self.now c.append_reloads.new.self c.append_spill.new.self c.in_ok-append_reloads.ensures
-    (emits_onto r moved _ behind _ c.append_reloads.new.self c.append.new.self c.append_spill.new.self c.in_ok-append.ensures c.append_spill.ensures
+    let r = c.emit_spill.result in
+    emits_onto r (reloads low home all all) _ (moved ++ behind) _ c.args.self.now c.emit_reloads.new.self c.emit_spill.new.self c.in_ok-emit_reloads.ensures
+    (emits_onto r moved _ behind _ c.emit_reloads.new.self c.emit.new.self c.emit_spill.new.self c.in_ok-emit.ensures c.emit_spill.ensures
     (ap (λ a. item home (Do a) ∷ []) c.act_moved.ensures) (ap (spill low home) c.target.ensures))
     refl refl

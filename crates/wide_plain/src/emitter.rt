@@ -14,17 +14,17 @@ use wide_core::{WideAct, WideOp, Word};
 
 /// The words of a function so far, and the next operation's number.
 #[derive(Drop)]
-pub(crate) struct Lines {
+pub(crate) struct Emitter {
     pub(crate) words: Items<Word>,
     pub(crate) number: u32,
 }
 
-impl Lines {
+impl Emitter {
     /// No words yet.
-    pub(crate) fn from_number(alloc: Global, number: u32) -> Lines
+    pub(crate) fn from_number(alloc: Global, number: u32) -> Emitter
         ensures { result ≡ record { words = []; number = number } }
     {
-        Lines {
+        Emitter {
             words: Items::new(alloc),
             number,
         }
@@ -41,8 +41,8 @@ impl Lines {
         Ok(number)
     }
 
-    /// Appends an operation in a word of its own.
-    pub(crate) fn append(
+    /// Emits an operation in a word of its own.
+    pub(crate) fn emit(
         &mut self,
         alloc: Global,
         home: Place,
@@ -58,8 +58,8 @@ impl Lines {
         self.words.push(word)
     }
 
-    /// Appends the reload of one of these sources, where it lives in a slot.
-    fn append_reload(
+    /// Emits the reload of one of these sources, where it lives in a slot.
+    fn emit_reload(
         &mut self,
         alloc: Global,
         homes: Homes,
@@ -75,12 +75,12 @@ impl Lines {
         }
         let to = homes.found_in(sources, reg);
         let from = reg - homes.low;
-        self.append(alloc, home, WideAct::Reload { to, from })
+        self.emit(alloc, home, WideAct::Reload { to, from })
     }
 
-    /// Appends the reloads of those of these sources that live in slots.
+    /// Emits the reloads of those of these sources that live in slots.
     #[tactic(auto, using(crate::proofs::Emitted::emits_none))]
-    pub(crate) fn append_reloads(
+    pub(crate) fn emit_reloads(
         &mut self,
         alloc: Global,
         homes: Homes,
@@ -91,13 +91,13 @@ impl Lines {
         ensures { OnOk result (Emits (reloads homes.low home sources.now sources.now) self.old self.new) }
     {
         for source in sources {
-            self.append_reload(alloc, homes, home, sources, *source)?;
+            self.emit_reload(alloc, homes, home, sources, *source)?;
         }
         Ok(())
     }
 
-    /// Appends the spill of what an operation gives, where its register lives in a slot.
-    fn append_spill(
+    /// Emits the spill of what an operation gives, where its register lives in a slot.
+    fn emit_spill(
         &mut self,
         alloc: Global,
         homes: Homes,
@@ -114,11 +114,11 @@ impl Lines {
         }
         let to = reg - homes.low;
         let from = homes.low;
-        self.append(alloc, home, WideAct::Spill { to, from })
+        self.emit(alloc, home, WideAct::Spill { to, from })
     }
 
-    /// Appends an operation that has these sources.
-    fn append_with(
+    /// Emits an operation that has these sources.
+    fn emit_with(
         &mut self,
         alloc: Global,
         homes: Homes,
@@ -130,13 +130,13 @@ impl Lines {
         ensures { OnOk result (Emits (reloads homes.low home sources.now sources.now ++ item home (WideAct.Do (act_moved (found_in homes.low sources.now) (left_in homes.low) act)) ∷ spill homes.low home (target act)) self.old self.new) }
     {
         let moved = WideAct::Do(homes.act_moved(sources, act));
-        self.append_reloads(alloc, homes, home, sources)?;
-        self.append(alloc, home, moved)?;
-        self.append_spill(alloc, homes, home, act.target())
+        self.emit_reloads(alloc, homes, home, sources)?;
+        self.emit(alloc, home, moved)?;
+        self.emit_spill(alloc, homes, home, act.target())
     }
 
-    /// Appends an operation on three-address registers.
-    pub(crate) fn append_act(
+    /// Emits an operation on three-address registers.
+    pub(crate) fn emit_act(
         &mut self,
         alloc: Global,
         homes: Homes,
@@ -147,12 +147,12 @@ impl Lines {
     {
         match act.first_source() {
             Some(first) => match act.second_source() {
-                Some(second) => self.append_with(alloc, homes, home, &[first, second], act),
-                None => self.append_with(alloc, homes, home, &[first], act),
+                Some(second) => self.emit_with(alloc, homes, home, &[first, second], act),
+                None => self.emit_with(alloc, homes, home, &[first], act),
             },
             None => match act.second_source() {
-                Some(second) => self.append_with(alloc, homes, home, &[second], act),
-                None => self.append_with(alloc, homes, home, &[], act),
+                Some(second) => self.emit_with(alloc, homes, home, &[second], act),
+                None => self.emit_with(alloc, homes, home, &[], act),
             },
         }
     }

@@ -7,5 +7,6 @@ pub mod Operations
 pub mod Places
 pub mod Rows
 pub mod Simulation
+pub mod Single
 pub mod Valid
 pub mod Words

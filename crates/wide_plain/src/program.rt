@@ -6,6 +6,7 @@ ghost use Rattle.tac_core.specs.Rules.{IsValid};
 ghost use Rattle.wide_core.specs.Meaning.{wide_meaning};
 ghost use Rattle.wide_core.specs.Valid.{IsValid as IsValidCode, limits};
 ghost use Rattle.plain_code.specs.Plain.{HasFewSlots, funcs_from, plain};
+ghost use Rattle.plain_code.specs.Single.{IsPlain};
 ghost use Rattle.wide_plain.specs.Emitted.{PassFew};
 ghost use Rattle.wide_plain.specs.Made.{NeedsFewSlots};
 
@@ -55,6 +56,7 @@ fn plain_raw(alloc: Global, homes: Homes, tac: &TacProgram) -> Result<RawCode, A
 /// would need more slots than valid code may have.
 pub fn plain<M: Machine>(alloc: Global, tac: &TacProgram) -> Result<WideCode<M>, AllocError>
     ensures code { IfOk result (λ code. code ≡ plain M.REGS tac.now) }
+    ensures single { IfOk result IsPlain }
     ensures valid { IfOk result (IsValidCode (limits M.WIDTH M.REGS M.units_of)) }
     ensures agrees { IfOk result (λ code. Agrees (tac_meaning tac.now) (wide_meaning M.latency_of code)) }
     ensures within { IfOk result (λ code. Within (λ k. 2 ^ 8 * (k + 1)) (tac_meaning tac.now) (wide_meaning M.latency_of code)) }

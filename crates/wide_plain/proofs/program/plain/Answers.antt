@@ -5,6 +5,8 @@ use Rattle.wide_core.specs.Valid.{IsValid, limits}
 use Rattle.ib_meaning.specs.Agreement.{Agrees, Within}
 use Rattle.tac_core.specs.Meaning.{tac_meaning}
 use Rattle.plain_code.specs.Plain.{plain, HasFewSlots}
+use Rattle.plain_code.specs.Single.{IsPlain}
+use Rattle.plain_code.proofs.Single.{plain_is_plain}
 use Rattle.plain_code.proofs.Agreeing.{plain_agrees, plain_within}
 use Rattle.plain_code.proofs.Valid.{plain_valid}
 use Rattle.wide_plain.proofs.program.plain.Goals as goal
@@ -17,6 +19,13 @@ keep-code-requires g c =
     let few : HasFewSlots m.REGS p = subst (λ n. HasFewSlots n p) c.of.ensures c.in_ok-raw.ensures.few in
     subst (IsValid (limits m.WIDTH m.REGS m.units_of)) (sym same)
     (plain_valid m.WIDTH m.REGS m.units_of m.latency_of g.met.M.Machine.is_table p c.in_ok-raw.ensures.given few)
+
+pub returns-clause-single : goal.returns-clause-single
+returns-clause-single g c =
+    let m = g.M.Machine in
+    let p = c.args.tac.now in
+    let same : c.keep-code.result ≡ plain m.REGS p = c.keep-code.ensures ∙ c.in_ok-raw.ensures.code ∙ ap (λ n. plain n p) c.of.ensures in
+    subst IsPlain (sym same) (plain_is_plain m.REGS p)
 
 pub returns-clause-agrees : goal.returns-clause-agrees
 returns-clause-agrees g c =

@@ -1,9 +1,8 @@
 -- Plain code does what its lowered program does, within a bound.
-use Rattle.std.proofs.Common.{◌≡◌, ℕ, suc, ◌+◌, ◌-◌, ◌*◌, ◌^◌, ◌≤◌, Bool, true, false, List, [], ◌∷◌, length, map, bytes_eq, codes, if◌then◌else◌, refl, sym, ap, ap₂, ◌∙◌, subst, arith}
+use Rattle.std.proofs.Common.{◌≡◌, ℕ, suc, ◌+◌, ◌-◌, ◌*◌, ◌^◌, Bool, true, false, List, [], ◌∷◌, length, map, bytes_eq, if◌then◌else◌, refl, sym, ap₂, subst, arith}
 use Rattle.std.proofs.lemmas.Slice.Eq.{bytes_eq-Decides}
 use Rattle.ib_meaning.specs.declared.place.Place.{Place}
 use Rattle.ib_meaning.specs.Agreement.{Agrees, Within}
-use Rattle.ib_meaning.specs.Machine.{means}
 use Rattle.ib_meaning.proofs.Agreement.{agree_trans, within_trans, within_weaker}
 use Rattle.ib_meaning.proofs.Simulation.{simulates, simulates_within}
 use Rattle.machine_desc.specs.declared.machine.OpClass.{OpClass}

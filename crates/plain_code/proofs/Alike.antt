@@ -1,7 +1,6 @@
 -- An operation does the same to the registers of a list and to places that hold their numbers.
-use Rattle.std.proofs.Common.{◌≡◌, ℕ, zero, suc, Bool, true, false, List, [], ◌∷◌, map, slice_set, Option, Some, None, Result, Ok, Err, ℤ, pos, negsuc, if◌then◌else◌, refl, sym, ap, ◌∙◌, subst}
+use Rattle.std.proofs.Common.{◌≡◌, ℕ, Bool, true, false, List, [], ◌∷◌, map, slice_set, Some, None, Result, Ok, Err, ℤ, pos, negsuc, if◌then◌else◌, refl, sym, subst}
 use Rattle.std.specs.Int.{w64, cast_unsigned}
-use Rattle.std.specs.Fmt.{signed_decimal}
 use Rattle.ib_base.specs.declared.integers.Width.{Width}
 use Rattle.ib_meaning.specs.declared.place.Place.{Place}
 use Rattle.ib_meaning.specs.declared.fault.FaultKind.{FaultKind}
@@ -11,16 +10,13 @@ use Rattle.ib_act.specs.declared.act.Act.{Act}
 use Rattle.ib_act.specs.declared.act.Act.TheVariants.{Const, Mov, Add, Sub, And, Or, Xor, ShiftLeft, ShiftRight, Equal, NotEqual, Less, LessEqual, ExtByte, ExtFour, FrameAddress, Bounds, Mul, Div, Rem, Load, Store, Get, PutByte, PutNumber}
 use Rattle.ib_act.specs.Acts.{address, bytes_in, given, target}
 use Rattle.tac_core.specs.Meaning.{Effect as TacEffect, Does, Fails, reg_of, writes as tac_writes, stores, takes, effect_of}
-use Rattle.wide_core.specs.declared.code.Loc.{Loc}
 use Rattle.wide_core.specs.declared.code.Loc.TheVariants.{Reg}
-use Rattle.wide_core.specs.declared.code.Tagged.{Tagged}
 use Rattle.wide_core.specs.declared.code.Tagged.TheVariants.{Clear}
 use Rattle.wide_core.specs.declared.code.WideAct.{WideAct}
 use Rattle.wide_core.specs.declared.code.WideAct.TheVariants.{Do}
 use Rattle.wide_core.specs.declared.code.WideOp.{WideOp}
-use Rattle.wide_core.specs.Bytes.{byte_of}
 use Rattle.wide_core.specs.Tagged.{evaluated}
-use Rattle.wide_core.specs.Operation.{Effect, Nothing, Write, Save, Take, Print, Go, Leave, Stop, Around, sources, shown, does_act, first_of, effect_on}
+use Rattle.wide_core.specs.Operation.{Effect, Write, Save, Take, Print, Stop, sources, shown, does_act, first_of, effect_on}
 use Rattle.wide_core.specs.Places.{in_registers}
 use Rattle.wide_core.specs.Word.{byte_from, behind_byte, saved}
 

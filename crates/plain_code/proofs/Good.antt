@@ -1,8 +1,7 @@
 -- The operations of plain code are good: they name registers, slots, words and functions that are there.
-use Rattle.std.proofs.Common.{◌≡◌, ℕ, zero, suc, ◌+◌, ◌-◌, ◌<◌, ◌≤◌, ◌==◌, ◌&&◌, not, T, nat_lt, nat_le, Bool, true, false, List, [], ◌∷◌, ◌++◌, length, map, slice_get, get_or, Option, Some, None, if◌then◌else◌, ℤ, pos, negsuc, ◌≤ℤ◌, refl, sym, ap, ap₂, ◌∙◌, subst, arith, append_assoc, append-nil, length-append}
-use Rattle.std.specs.Prelude.{MatchOption, IfSome, int_le}
+use Rattle.std.proofs.Common.{◌≡◌, ℕ, zero, suc, ◌+◌, ◌-◌, ◌<◌, ◌≤◌, ◌==◌, ◌&&◌, T, nat_lt, Bool, true, false, List, [], ◌∷◌, ◌++◌, length, map, slice_get, Option, Some, None, if◌then◌else◌, pos, negsuc, refl, ap, ◌∙◌, arith, length-append}
+use Rattle.std.specs.Prelude.{int_le}
 use Rattle.std.specs.List.{All, list_all}
-use Rattle.std.specs.Option.{option_map}
 use Rattle.std.proofs.lemmas.List.{length-map}
 use Rattle.std.proofs.lemmas.List.Elements.{All-head, All-tail}
 use Rattle.std.proofs.lemmas.Bool.Decides.{nat_tests}
@@ -17,21 +16,20 @@ use Rattle.tac_core.specs.declared.code.End.TheVariants.{Jump as Leads, Branch a
 use Rattle.tac_core.specs.declared.code.Block.{Block}
 use Rattle.tac_core.specs.declared.code.TacFunc.{TacFunc}
 use Rattle.tac_core.specs.Meaning.{place_of}
-use Rattle.tac_core.specs.Rules.{IsRegister, IsGoodAct, IsGoodOp, IsTarget, Takes, IsGoodEnd, IsGoodBlock, IsGoodFunc}
-use Rattle.tac_core.proofs.Lists.{All-get}
+use Rattle.tac_core.specs.Rules.{IsRegister, IsGoodAct, IsGoodOp, Takes, IsGoodEnd, IsGoodBlock}
 use Rattle.wide_core.specs.declared.code.Loc.{Loc}
 use Rattle.wide_core.specs.declared.code.Loc.TheVariants.{Reg, Slot}
 use Rattle.wide_core.specs.declared.code.WideAct.{WideAct}
 use Rattle.wide_core.specs.declared.code.WideAct.TheVariants.{Do, Spill, Reload, Jump, Branch, Call as CallTo, Return}
 use Rattle.wide_core.specs.declared.code.WideFunc.{WideFunc}
-use Rattle.wide_core.specs.Cycle.{target_if, touched}
-use Rattle.wide_core.specs.Operation.{reg_if, reg_of as loc_of, sources, target as wide_target}
+use Rattle.wide_core.specs.Cycle.{target_if}
+use Rattle.wide_core.specs.Operation.{reg_of as loc_of, sources}
 use Rattle.wide_core.specs.Renamed.{act_moved, opt_moved, result_moved}
 use Rattle.wide_core.specs.Uses.{opt_list, reads, writes_now}
-use Rattle.wide_core.specs.Valid.{Scope, is_within, goes_within, takes, calls_well, has_good_number}
+use Rattle.wide_core.specs.Valid.{Scope, is_within, takes, has_good_number}
 use Rattle.wide_laws.proofs.Renamed.{sources_moved}
-use Rattle.plain_code.specs.Plain.{Item, item, index, place, found_in, left_in, reload, reloads, spill, renamed, spread, spread_all, end_acts, rest_items, block_items, all_items, func_items, start, size, func_from, funcs_from}
-use Rattle.plain_code.proofs.Numbers.{rest_long, func_at}
+use Rattle.plain_code.specs.Plain.{item, index, place, found_in, left_in, reload, reloads, spill, renamed, spread, spread_all, end_acts, rest_items, block_items, all_items, start}
+use Rattle.plain_code.proofs.Numbers.{rest_long}
 use Rattle.plain_code.proofs.Operations.{few_reads, few_read}
 use Rattle.plain_code.proofs.OneEach.{EndsWell, ends_behind, ends_before_none, ends_one, ends_long, IsGood, AllGood, NoneGood, MoreGood, good_behind}
 

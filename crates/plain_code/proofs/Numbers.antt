@@ -1,5 +1,5 @@
 -- Words by their numbers: where they lie, and that a number names its operation's place.
-use Rattle.std.proofs.Common.{◌≡◌, ℕ, zero, suc, ◌+◌, ◌<◌, ◌≤◌, ◌==◌, Bool, true, false, List, [], ◌∷◌, ◌++◌, length, drop, slice_get, Option, Some, None, if◌then◌else◌, refl, sym, ap, ◌∙◌, subst, arith, append_assoc, length-append}
+use Rattle.std.proofs.Common.{◌≡◌, ℕ, zero, suc, ◌+◌, ◌<◌, ◌≤◌, ◌==◌, true, false, List, [], ◌∷◌, ◌++◌, length, drop, slice_get, Option, Some, None, refl, sym, ap, ◌∙◌, subst, arith, length-append}
 use Rattle.std.specs.Option.{option_map}
 use Rattle.std.proofs.lemmas.Bool.Decides.{nat_tests}
 use Rattle.ib_meaning.specs.declared.place.Place.{Place}
@@ -7,16 +7,13 @@ use Rattle.tac_core.specs.declared.code.TacOp.{TacOp}
 use Rattle.tac_core.specs.declared.code.Block.{Block}
 use Rattle.tac_core.specs.declared.code.TacFunc.{TacFunc}
 use Rattle.tac_core.specs.Meaning.{block_of, place_of}
-use Rattle.tac_core.proofs.Lists.{slice_get_front}
 use Rattle.wide_core.specs.declared.code.WideOp.{WideOp}
-use Rattle.wide_core.specs.declared.code.Word.{Word}
-use Rattle.wide_core.specs.declared.code.WideFunc.{WideFunc}
 use Rattle.wide_core.specs.declared.code.WideAct.{WideAct}
 use Rattle.wide_core.specs.declared.code.WideAct.TheVariants.{Do}
 use Rattle.wide_core.specs.declared.code.RawCode.{RawCode}
 use Rattle.wide_core.specs.Parts.{words_of, ops_of_words, ops_of_funcs, home_in, home_of}
 use Rattle.wide_core.specs.Uses.{reads, writes_now}
-use Rattle.plain_code.specs.Plain.{Item, item, reload, reloads, spill, spread, spread_all, end_items, rest_items, block_items, size, start, all_items, func_items, numbered, func_from, funcs_from, renamed, end_acts}
+use Rattle.plain_code.specs.Plain.{Item, item, reloads, spill, spread, spread_all, rest_items, block_items, start, all_items, func_items, numbered, func_from, funcs_from, renamed, end_acts}
 
 other_number : (n m : ℕ) → n < m → (n == m) ≡ false
 other_number n m lt = grind (arith, nat_tests)

@@ -1,17 +1,15 @@
 -- Words with one operation each, whose numbers rise, break no rule where each operation is good.
-use Rattle.std.proofs.Common.{◌≡◌, ℕ, zero, suc, ◌+◌, ◌<◌, ◌≤◌, ◌==◌, ◌||◌, ◌&&◌, not, nat_lt, nat_le, Bool, true, false, List, [], ◌∷◌, ◌++◌, length, map, if◌then◌else◌, refl, sym, ap, ap₂, ◌∙◌, subst, arith, append_assoc, append-nil, length-append}
+use Rattle.std.proofs.Common.{◌≡◌, ℕ, suc, ◌+◌, ◌<◌, ◌≤◌, ◌==◌, nat_lt, nat_le, Bool, true, false, List, [], ◌∷◌, ◌++◌, length, if◌then◌else◌, refl, sym, ap, ap₂, ◌∙◌, subst, arith, append_assoc, append-nil, length-append}
 use Rattle.std.specs.List.{list_all, list_any}
 use Rattle.std.proofs.lemmas.Bool.Decides.{nat_tests}
 use Rattle.machine_desc.specs.declared.machine.OpClass.{OpClass}
 use Rattle.machine_desc.specs.declared.machine.OpClass.TheVariants.{Alu, Mul, Mem, Io, Control}
-use Rattle.wide_core.specs.declared.code.Loc.{Loc}
 use Rattle.wide_core.specs.declared.code.WideAct.{WideAct}
 use Rattle.wide_core.specs.declared.code.WideOp.{WideOp}
-use Rattle.wide_core.specs.declared.code.Word.{Word}
 use Rattle.wide_core.specs.Classes.{class_of, ends}
 use Rattle.wide_core.specs.Cycle.{touched}
-use Rattle.wide_core.specs.Valid.{limits, Scope, broken, rule, is_within, goes_within, calls_well, has_good_number, rules_of_op, of_ops, same_class, count_of, has_units, fits_word, rules_of_word, numbers_of, numbers_in, is_last, lines_of_word, of_word, of_words}
-use Rattle.plain_code.specs.Plain.{Item, item, numbered}
+use Rattle.wide_core.specs.Valid.{limits, Scope, is_within, goes_within, calls_well, has_good_number, of_ops, same_class, has_units, fits_word, numbers_in, is_last, lines_of_word, of_word, of_words}
+use Rattle.plain_code.specs.Plain.{Item, numbered}
 
 -- ---- numbers that are below a number
 

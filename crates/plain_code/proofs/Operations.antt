@@ -1,7 +1,6 @@
 -- What the words of an operation do: at most four of them do what the operation does.
-use Rattle.std.proofs.Common.{◌≡◌, ℕ, zero, suc, ◌+◌, ◌<◌, ◌≤◌, List, [], ◌∷◌, ◌++◌, length, slice_set, Option, Some, None, ℤ, refl, sym, ap, ◌∙◌, subst, arith, append_assoc}
+use Rattle.std.proofs.Common.{◌≡◌, ℕ, suc, ◌+◌, ◌<◌, ◌≤◌, List, [], ◌∷◌, ◌++◌, length, slice_set, Option, Some, None, ℤ, refl, sym, ap, ◌∙◌, subst, arith, append_assoc}
 use Rattle.ib_meaning.specs.declared.place.Place.{Place}
-use Rattle.ib_meaning.specs.declared.fault.FaultKind.{FaultKind}
 use Rattle.ib_meaning.specs.Agreement.{Faulted}
 use Rattle.ib_meaning.specs.Machine.{Goes, Stops, Reaches, Halts}
 use Rattle.ib_meaning.proofs.Machine.{reach_one, halt_one, reach_trans, reach_halt}
@@ -13,7 +12,6 @@ use Rattle.wide_core.specs.declared.code.Loc.{Loc}
 use Rattle.wide_core.specs.declared.code.Loc.TheVariants.{Reg}
 use Rattle.wide_core.specs.declared.code.Tagged.{Tagged}
 use Rattle.wide_core.specs.declared.code.Tagged.TheVariants.{Clear}
-use Rattle.wide_core.specs.declared.code.WideAct.{WideAct}
 use Rattle.wide_core.specs.declared.code.WideAct.TheVariants.{Do}
 use Rattle.wide_core.specs.declared.code.RawCode.{RawCode}
 use Rattle.wide_core.specs.Meaning.{Running, Waiting, word_step, has_room}

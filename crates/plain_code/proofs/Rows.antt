@@ -14,7 +14,6 @@ use Rattle.tac_core.specs.declared.code.TacOp.{TacOp}
 use Rattle.tac_core.specs.declared.code.End.{End}
 use Rattle.tac_core.specs.declared.code.End.TheVariants.{Jump as Leads, Branch as Parts, Call as Calls, Ret}
 use Rattle.tac_core.specs.declared.code.Block.{Block}
-use Rattle.tac_core.specs.declared.code.TacFunc.{TacFunc}
 use Rattle.tac_core.specs.Program.{Program}
 use Rattle.wide_core.specs.declared.code.Loc.TheVariants.{Reg, Slot}
 use Rattle.wide_core.specs.declared.code.WideAct.{WideAct}
@@ -25,7 +24,7 @@ use Rattle.wide_core.specs.declared.code.RawCode.{RawCode}
 use Rattle.wide_core.specs.Operation.{effect_on}
 use Rattle.wide_core.specs.Word.{after_word}
 use Rattle.wide_core.specs.Meaning.{Wide, cycle_by, entered}
-use Rattle.plain_code.specs.Plain.{Item, item, spread, plain}
+use Rattle.plain_code.specs.Plain.{item, spread, plain}
 
 abbrev first : Place
 first = record { line = 1; col = 1 }

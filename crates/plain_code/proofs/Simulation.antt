@@ -1,5 +1,5 @@
 -- The words do what the lowered program does: one step is at most nine words.
-use Rattle.std.proofs.Common.{◌≡◌, ℕ, zero, suc, ◌+◌, ◌<◌, ◌≤◌, Bool, true, false, not, List, [], ◌∷◌, ◌++◌, length, drop, map, slice_get, replicate, Option, Some, None, ℤ, pos, negsuc, if◌then◌else◌, refl, sym, ap, ap₂, ◌∙◌, subst, arith, append_assoc, append-nil}
+use Rattle.std.proofs.Common.{◌≡◌, ℕ, zero, suc, ◌+◌, ◌≤◌, Bool, true, false, not, List, [], ◌∷◌, ◌++◌, length, drop, map, slice_get, replicate, Option, Some, None, ℤ, pos, negsuc, if◌then◌else◌, refl, sym, ap, ap₂, ◌∙◌, subst, arith}
 use Rattle.std.specs.Prelude.{MatchOption}
 use Rattle.std.specs.List.{All}
 use Rattle.std.specs.Option.{option_map}
@@ -8,10 +8,9 @@ use Rattle.ib_base.specs.declared.integers.Width.TheVariants.{W4}
 use Rattle.ib_base.specs.Integers.{wrapped}
 use Rattle.ib_mem.specs.Memory.{cleared}
 use Rattle.ib_meaning.specs.declared.place.Place.{Place}
-use Rattle.ib_meaning.specs.declared.fault.FaultKind.{FaultKind}
 use Rattle.ib_meaning.specs.declared.fault.FaultKind.TheVariants.{StackOverflow}
 use Rattle.ib_meaning.specs.Agreement.{Returned, Faulted}
-use Rattle.ib_meaning.specs.Machine.{Step, Goes, Stops, Reaches, Halts}
+use Rattle.ib_meaning.specs.Machine.{Step, Goes, Stops, Reaches}
 use Rattle.ib_meaning.proofs.Machine.{reach_one, halt_one, reach_trans, reach_halt}
 use Rattle.ib_meaning.proofs.Simulation.{Together, Answers, answered}
 use Rattle.ib_act.specs.Acts.{target}
@@ -21,29 +20,26 @@ use Rattle.tac_core.specs.declared.code.End.TheVariants.{Jump as Leads, Branch a
 use Rattle.tac_core.specs.declared.code.Block.{Block}
 use Rattle.tac_core.specs.declared.code.TacFunc.{TacFunc}
 use Rattle.tac_core.specs.Program.{Program}
-use Rattle.tac_core.specs.Rules.{IsRegister, IsGoodOp, IsGoodEnd, IsGoodBlock, IsGoodFunc, IsValid, Takes}
-use Rattle.tac_core.specs.Meaning.{Effect as TacEffect, Does, Fails, reg_of, number_in, set_in, set_all, effect_of, Here, Waiting as TacWaiting, State, Lost, In, block_of, frame_of as tac_frame_of, enter as tac_enter, go, first_regs, call, overflows as tac_overflows, place_of, after_act, target_of, do_return, do_call, do_end_of, do_end, tac_step}
+use Rattle.tac_core.specs.Rules.{IsRegister, IsGoodOp, IsGoodEnd, IsGoodBlock, IsGoodFunc, IsValid}
+use Rattle.tac_core.specs.Meaning.{Effect as TacEffect, Does, Fails, reg_of, number_in, set_in, effect_of, Waiting as TacWaiting, State, Lost, In, block_of, frame_of as tac_frame_of, enter as tac_enter, go, first_regs, call, overflows as tac_overflows, place_of, after_act, target_of, do_return, do_call, do_end_of, do_end, tac_step}
 use Rattle.tac_core.proofs.Lists.{All-get}
 use Rattle.wide_core.specs.declared.code.Loc.{Loc}
 use Rattle.wide_core.specs.declared.code.Loc.TheVariants.{Reg}
 use Rattle.wide_core.specs.declared.code.Tagged.{Tagged}
 use Rattle.wide_core.specs.declared.code.Tagged.TheVariants.{Clear}
-use Rattle.wide_core.specs.declared.code.WideAct.{WideAct}
 use Rattle.wide_core.specs.declared.code.WideAct.TheVariants.{Do, Jump, Branch, Call as CallTo, Return}
-use Rattle.wide_core.specs.declared.code.WideFunc.{WideFunc}
 use Rattle.wide_core.specs.declared.code.RawCode.{RawCode}
-use Rattle.wide_core.specs.Every.{Every, Nil, Cons}
-use Rattle.wide_core.specs.Meaning.{Running, Waiting, word_step, func_of, has_room, next_base, put_all, entered, enter, leave, around_of, step_by}
-use Rattle.wide_core.specs.Operation.{Effect, Nothing, Go, Leave, Stop, To, Into, Around, is_zero, sources, effect_on, reg_if, reg_of as loc_of}
-use Rattle.wide_core.specs.Parts.{words_of, frame_of, params_of, home_of, overflows}
+use Rattle.wide_core.specs.Meaning.{Running, Waiting, word_step, func_of, has_room, put_all, entered, enter, around_of, step_by}
+use Rattle.wide_core.specs.Operation.{Effect, Nothing, Go, Leave, Stop, To, Into, Around, is_zero, sources, effect_on, reg_of as loc_of}
+use Rattle.wide_core.specs.Parts.{words_of, frame_of, params_of, overflows}
 use Rattle.wide_core.specs.Places.{in_registers}
-use Rattle.wide_core.specs.Renamed.{effect_moved, result_moved, opt_moved}
+use Rattle.wide_core.specs.Renamed.{effect_moved, result_moved}
 use Rattle.wide_core.specs.Tagged.{number_of, least_mark}
 use Rattle.wide_core.specs.Uses.{opt_list, reads}
 use Rattle.wide_core.specs.Word.{after_word}
-use Rattle.plain_code.specs.Plain.{Item, item, place, found_in, left_in, reloads, spill, renamed, spread, numbered, start, spread_all, end_acts, end_items, rest_items, func_from, funcs_from}
+use Rattle.plain_code.specs.Plain.{Item, item, place, left_in, reloads, spill, renamed, numbered, start, spread_all, end_acts, rest_items, func_from}
 use Rattle.plain_code.proofs.Alike.{op_of}
-use Rattle.plain_code.proofs.Numbers.{code_of, Homed, homed_rest, homed_first, first, items_in, func_at, words_at, numbered_drop, func_homed, func_homed_from, Begins, at_in, func_block_at}
+use Rattle.plain_code.proofs.Numbers.{code_of, Homed, homed_first, first, items_in, func_at, words_at, numbered_drop, func_homed_from, Begins, at_in, func_block_at}
 use Rattle.plain_code.proofs.Places.{Held, held_result, held_params, set_in_long, set_all_long, zeros_long}
 use Rattle.plain_code.proofs.Words.{at_words, does_one, loaded, renamed_word}
 use Rattle.plain_code.proofs.Operations.{regroup, few_read, Acts, op_acts}

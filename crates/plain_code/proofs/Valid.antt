@@ -1,7 +1,7 @@
 -- Plain code of a valid program keeps the rules on every machine, unless a function needs too many slots.
-use Rattle.std.proofs.Common.{◌≡◌, ◌≢◌, ℕ, zero, suc, ◌+◌, ◌-◌, ◌%◌, ◌<◌, ◌≤◌, ◌==◌, ◌||◌, ◌&&◌, not, nat_lt, nat_le, Bool, true, false, IsTrue, List, [], ◌∷◌, ◌++◌, length, map, slice_get, slice_index_or, get_or, Option, Some, None, bytes_eq, codes, if◌then◌else◌, refl, sym, ap, ap₂, ◌∙◌, subst, arith}
+use Rattle.std.proofs.Common.{◌≡◌, ◌≢◌, ℕ, zero, suc, ◌+◌, ◌-◌, ◌%◌, ◌<◌, ◌≤◌, ◌==◌, ◌||◌, ◌&&◌, nat_le, Bool, true, false, IsTrue, List, [], ◌∷◌, ◌++◌, length, map, slice_get, slice_index_or, Option, Some, None, bytes_eq, codes, refl, sym, ap, ap₂, ◌∙◌, subst, arith}
 use Rattle.std.specs.Prelude.{MatchOption}
-use Rattle.std.specs.List.{All, AllPairs, Any, list_all, list_any}
+use Rattle.std.specs.List.{All, AllPairs, list_all, list_any}
 use Rattle.std.specs.Option.{option_map}
 use Rattle.std.proofs.lemmas.List.{length-map}
 use Rattle.std.proofs.lemmas.List.Elements.{All-head, All-tail}
@@ -15,19 +15,19 @@ use Rattle.machine_desc.specs.declared.machine.OpClass.TheVariants.{Alu}
 use Rattle.machine_desc.specs.Machine.{IsTable}
 use Rattle.tac_core.specs.declared.code.Block.{Block}
 use Rattle.tac_core.specs.declared.code.TacFunc.{TacFunc}
-use Rattle.tac_core.specs.Program.{Program, main_name}
-use Rattle.tac_core.specs.Rules.{Takes, IsGoodBlock, IsGoodFunc, IsName, IsMain, IsValid, is_letter as tac_is_letter, is_digit as tac_is_digit}
+use Rattle.tac_core.specs.Program.{Program}
+use Rattle.tac_core.specs.Rules.{Takes, IsGoodFunc, IsName, IsMain, IsValid, is_letter as tac_is_letter, is_digit as tac_is_digit}
 use Rattle.tac_core.proofs.Lists.{All-get}
 use Rattle.wide_core.specs.declared.code.Loc.{Loc}
 use Rattle.wide_core.specs.declared.code.WideFunc.{WideFunc}
 use Rattle.wide_core.specs.declared.code.RawCode.{RawCode}
 use Rattle.wide_core.specs.Parts.{is_main}
 use Rattle.wide_core.specs.Places.{same_loc}
-use Rattle.wide_core.specs.Valid.{IsValid as IsValidCode, limits, broken, rule, is_within, takes, is_letter, is_digit, is_name, differ, has_good_sizes, rules_of_func, scope_of, numbers_in, lines_of_func, of_words, of_func, of_funcs, image_line, first_func_line, notes_line, is_entry, broken_rules}
+use Rattle.wide_core.specs.Valid.{IsValid as IsValidCode, limits, is_within, takes, is_letter, is_digit, is_name, differ, has_good_sizes, scope_of, numbers_in, lines_of_func, of_func, of_funcs, first_func_line, is_entry, broken_rules}
 use Rattle.plain_code.specs.Plain.{place, all_items, func_items, start, numbered, func_from, funcs_from, plain, HasFewSlots}
 use Rattle.plain_code.proofs.Numbers.{func_at}
 use Rattle.plain_code.proofs.Places.{place_differs}
-use Rattle.plain_code.proofs.OneEach.{AllBelow, NoneBelow, below_more, below_behind, numbers_below, length-numbered, EndsWell, ends_long, AllGood, one_each_kept}
+use Rattle.plain_code.proofs.OneEach.{AllBelow, NoneBelow, below_more, below_behind, numbers_below, length-numbered, EndsWell, ends_long, one_each_kept}
 use Rattle.plain_code.proofs.Good.{below, place_within, blocks_good, blocks_well, start_within}
 
 -- ---- names and lists

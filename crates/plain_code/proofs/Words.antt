@@ -1,8 +1,8 @@
 -- What the words of one operation do: reloads, the operation itself, a spill.
-use Rattle.std.proofs.Common.{◌≡◌, ℕ, zero, suc, ◌+◌, ◌-◌, ◌<◌, ◌≤◌, ◌==◌, ◌||◌, nat_lt, Bool, true, false, List, [], ◌∷◌, ◌++◌, length, map, slice_set, slice_index_or, Option, Some, None, ℤ, pos, if◌then◌else◌, refl, sym, ap, ◌∙◌, subst, arith}
+use Rattle.std.proofs.Common.{◌≡◌, ℕ, suc, ◌+◌, ◌-◌, ◌<◌, ◌≤◌, ◌==◌, ◌||◌, nat_lt, Bool, true, false, List, [], ◌∷◌, ◌++◌, length, map, slice_set, slice_index_or, Some, ℤ, if◌then◌else◌, refl, sym, ap, ◌∙◌, subst, arith}
 use Rattle.std.proofs.lemmas.Bool.Decides.{nat_tests}
 use Rattle.ib_meaning.specs.declared.place.Place.{Place}
-use Rattle.ib_meaning.specs.Machine.{Step, Goes, Stops, Reaches}
+use Rattle.ib_meaning.specs.Machine.{Step, Goes, Reaches}
 use Rattle.ib_meaning.proofs.Machine.{reach_one, reach_none, reach_trans}
 use Rattle.tac_core.specs.Meaning.{reg_of}
 use Rattle.wide_core.specs.declared.code.Loc.{Loc}
@@ -10,19 +10,17 @@ use Rattle.wide_core.specs.declared.code.Loc.TheVariants.{Reg, Slot}
 use Rattle.wide_core.specs.declared.code.Tagged.{Tagged}
 use Rattle.wide_core.specs.declared.code.Tagged.TheVariants.{Clear}
 use Rattle.wide_core.specs.declared.code.WideAct.{WideAct}
-use Rattle.wide_core.specs.declared.code.WideAct.TheVariants.{Do, Spill, Reload}
-use Rattle.wide_core.specs.declared.code.WideOp.{WideOp}
-use Rattle.wide_core.specs.declared.code.Word.{Word}
+use Rattle.wide_core.specs.declared.code.WideAct.TheVariants.{Spill, Reload}
 use Rattle.wide_core.specs.declared.code.RawCode.{RawCode}
 use Rattle.wide_core.specs.Every.{Every, Nil, Cons}
 use Rattle.wide_core.specs.Meaning.{Running, Waiting, word_step, next_step, around_of}
-use Rattle.wide_core.specs.Operation.{Effect, Around, sources, effect_on}
+use Rattle.wide_core.specs.Operation.{Effect, sources, effect_on}
 use Rattle.wide_core.specs.Places.{same_loc, put, in_registers}
 use Rattle.wide_core.specs.Renamed.{effect_moved}
 use Rattle.wide_core.specs.Uses.{reads, in_list}
-use Rattle.wide_core.specs.Word.{Flow, Outcome, Through, acts, after_word}
+use Rattle.wide_core.specs.Word.{Flow, Through, acts, after_word}
 use Rattle.wide_laws.proofs.Renamed.{on_moved, values_moved}
-use Rattle.plain_code.specs.Plain.{Item, item, index, place, found_in, left_in, reload, reloads, spill, renamed, numbered}
+use Rattle.plain_code.specs.Plain.{Item, item, index, place, found_in, left_in, reloads, spill, renamed, numbered}
 use Rattle.plain_code.proofs.Alike.{op_of}
 use Rattle.plain_code.proofs.Numbers.{Homed, homed_rest}
 use Rattle.plain_code.proofs.Places.{Held, held_put, put_same, put_other, eq_same}

@@ -13,7 +13,6 @@ use Rattle.wide_core.specs.declared.code.Loc.{Loc}
 use Rattle.wide_core.specs.declared.code.Loc.TheVariants.{Reg, Slot}
 use Rattle.wide_core.specs.declared.code.WideAct.{WideAct}
 use Rattle.wide_core.specs.declared.code.WideAct.TheVariants.{Do, Spill, Reload, Jump, Branch, Call, Return}
-use Rattle.wide_core.specs.declared.code.WideOp.{WideOp}
 use Rattle.wide_core.specs.declared.code.Word.{Word}
 use Rattle.wide_core.specs.declared.code.WideFunc.{WideFunc}
 use Rattle.wide_core.specs.declared.code.RawCode.{RawCode}

@@ -1,0 +1,5 @@
+//! From structured code to blocks.
+#![tactic(auto)]
+
+mod jump;
+mod survey;

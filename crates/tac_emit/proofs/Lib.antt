@@ -1,1 +1,3 @@
+pub mod Emitting
+pub mod Registers
 pub mod Surveying

@@ -6,7 +6,7 @@ use Rattle.std.proofs.Math.ListN.{drop, get_or}
 use Rattle.tac_code.specs.declared.code.Code.{Code as RCode, Row, Row_of-Code, end_of-Code, more_of-Code, items-the_row-Code, the_lemmas}
 use Rattle.tac_code.specs.Views.{code_of, row_code}
 use Rattle.tac_lowered.specs.Code.{Code, both, when, choose, repeat, until, Test, on, all_of}
-use Rattle.tac_lowered.specs.Items.{Open, fresh, fresh_if, is_full, is_jump, owned, goes, goes_test}
+use Rattle.tac_lowered.specs.Items.{Open, fresh, fresh_if, is_full, is_jump, owned, goes, goes_test, Loop, entry}
 use Rattle.tac_emit.specs.declared.survey.Targets.{Targets}
 use Rattle.tac_emit.specs.declared.survey.Survey.{Survey}
 use Rattle.tac_emit.specs.Extents.{acts, acts_test, targets, targets_test, led, row_of, open_of, Surveys, SurveysCode, SurveysOwned, SurveysTest, SurveysTurns, Reserves, Sets}
@@ -39,6 +39,13 @@ pub row_stays : (a : RCode) (v : Vec RCode Global) (b : Box RCode Global) → a 
 row_stays a v b e some = ap is_jump (row_at a v v.items b e refl) ∙ go v.items some
   where
     go : (xs : List RCode) → (xs ≡ [] → ⊥) → is_jump (row_of (map code_of xs) (code_of b.value)) ≡ false
+    go [] h = absurd (h refl)
+    go (x ∷ xs) h = refl
+
+pub row_enters : (a : RCode) (v : Vec RCode Global) (b : Box RCode Global) (x : Loop) (next label : ℕ) → a ≡ Row v b → (v.items ≡ [] → ⊥) → entry (code_of a) x next label ≡ label
+row_enters a v b x next label e some = ap (λ c. entry c x next label) (row_at a v v.items b e refl) ∙ go v.items some
+  where
+    go : (xs : List RCode) → (xs ≡ [] → ⊥) → entry (row_of (map code_of xs) (code_of b.value)) x next label ≡ label
     go [] h = absurd (h refl)
     go (x ∷ xs) h = refl
 

@@ -4,7 +4,7 @@ ghost use Rattle.tac_lowered.specs.Items.{is_jump};
 
 use tac_code::{Code, Exit};
 
-fn has_none(row: &[Code]) -> bool
+pub(crate) fn has_none(row: &[Code]) -> bool
     ensures none { result ≡ true → row.now ≡ [] }
     ensures some { result ≡ false → (row.now ≡ []) → ⊥ }
 {

@@ -20,6 +20,14 @@ pub(crate) struct Targets {
     pub behind: u32,
 }
 
+impl Targets {
+    pub const NONE: Targets = Targets {
+        first: 0,
+        second: 0,
+        behind: 0,
+    };
+}
+
 /// A walk over code ahead of its emission: the open block's label and how many operations it has, all operations so
 /// far, and the constructs' targets.
 #[derive(Drop)]
@@ -80,11 +88,7 @@ impl Survey {
         ensures { IfOk result (λ at. Reserves self.old self.new at) }
     {
         let at = self.targets.len();
-        self.targets.push(Targets {
-            first: 0,
-            second: 0,
-            behind: 0,
-        })?;
+        self.targets.push(Targets::NONE)?;
         Ok(at)
     }
 

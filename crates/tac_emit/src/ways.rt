@@ -1,0 +1,73 @@
+ghost use Rattle.std.specs.Prelude.{◌≡◌};
+ghost use Rattle.tac_code.specs.Views.{code_of};
+ghost use Rattle.tac_core.specs.declared.code.End.TheVariants.{Jump, Branch};
+ghost use Rattle.tac_lowered.specs.Items.{branch, entry, label_of};
+ghost use Rattle.tac_emit.specs.Emitted.{loop_of, next_of};
+
+use crate::jump::has_none;
+use tac_code::{Code, Exit};
+use tac_core::End;
+
+/// The innermost loop's labels.
+#[derive(Clone, Copy)]
+pub(crate) struct Loop {
+    pub on_break: u32,
+    pub on_continue: u32,
+}
+
+/// Where code goes behind its end: on in the open block, or to a label.
+#[derive(Clone, Copy)]
+pub(crate) enum Next {
+    Onward,
+    Jump { stmt: u32, label: u32 },
+}
+
+impl Next {
+    /// The label, or that of the block behind.
+    pub fn label_or(self, behind: u32) -> u32
+        ensures { result ≡ label_of (next_of self) behind }
+    {
+        match self {
+            Next::Onward => behind,
+            Next::Jump { label, .. } => label,
+        }
+    }
+}
+
+/// An end that goes to one label where the register is not 0, and else to the other.
+pub(crate) fn branch(reg: u32, yes: u32, no: u32) -> End
+    ensures { result ≡ branch reg yes no }
+{
+    if yes == no {
+        return End::Jump(yes);
+    }
+    End::Branch { reg, yes, no }
+}
+
+/// Where to go for code that has the block `label` of its own.
+#[tactic(auto, using(crate::proofs::Surveying::row_counted, crate::proofs::Surveying::row_alone, crate::proofs::Surveying::row_enters))]
+pub(crate) fn entry(code: &Code, around: Loop, next: u32, label: u32) -> u32
+    ensures { result ≡ entry (code_of code.now) (loop_of around) next label }
+{
+    match code {
+        Code::Nothing => next,
+        Code::Leave { exit, .. } => match exit {
+            Exit::Breaks => around.on_break,
+            Exit::Continues => around.on_continue,
+            Exit::Returns(_) => label,
+        },
+        Code::Row { first, last } => {
+            if has_none(first) {
+                return entry(last, around, next, label);
+            }
+            label
+        }
+        Code::Does { .. }
+        | Code::Both(..)
+        | Code::Calls { .. }
+        | Code::When { .. }
+        | Code::Choose { .. }
+        | Code::Repeat { .. }
+        | Code::Until { .. } => label,
+    }
+}

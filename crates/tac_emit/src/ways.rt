@@ -1,7 +1,7 @@
 ghost use Rattle.std.specs.Prelude.{◌≡◌};
-ghost use Rattle.tac_code.specs.Views.{code_of};
-ghost use Rattle.tac_core.specs.declared.code.End.TheVariants.{Jump, Branch};
-ghost use Rattle.tac_lowered.specs.Items.{branch, entry, label_of};
+ghost use Rattle.tac_code.specs.Views.{code_of, exit_of};
+ghost use Rattle.tac_emit.specs.declared.ways.Next.TheVariants as n;
+ghost use Rattle.tac_lowered.specs.Items.{branch, entry, exit, label_of};
 ghost use Rattle.tac_emit.specs.Emitted.{loop_of, next_of};
 
 use crate::jump::has_none;
@@ -31,6 +31,73 @@ impl Next {
             Next::Onward => behind,
             Next::Jump { label, .. } => label,
         }
+    }
+}
+
+/// The labels of the loop around code, and where it goes behind its end.
+#[derive(Clone, Copy)]
+pub(crate) struct Ways {
+    pub around: Loop,
+    pub next: Next,
+}
+
+impl Ways {
+    /// Where no loop is around, and code goes on in the open block.
+    pub const NOWHERE: Ways = Ways {
+        around: Loop {
+            on_break: 0,
+            on_continue: 0,
+        },
+        next: Next::Onward,
+    };
+
+    /// The same loop, and on in the open block.
+    pub fn onward(self) -> Ways
+        ensures { result ≡ record { around = self.around; next = n.Onward } }
+    {
+        Ways {
+            around: self.around,
+            next: Next::Onward,
+        }
+    }
+
+    /// The same loop, and to a label.
+    pub fn to(self, stmt: u32, label: u32) -> Ways
+        ensures { result ≡ record { around = self.around; next = n.Jump stmt label } }
+    {
+        Ways {
+            around: self.around,
+            next: Next::Jump { stmt, label },
+        }
+    }
+
+    pub fn within(around: Loop, stmt: u32, label: u32) -> Ways
+        ensures { result ≡ record { around = around; next = n.Jump stmt label } }
+    {
+        Ways {
+            around,
+            next: Next::Jump { stmt, label },
+        }
+    }
+
+    pub fn onward_within(around: Loop) -> Ways
+        ensures { result ≡ record { around = around; next = n.Onward } }
+    {
+        Ways {
+            around,
+            next: Next::Onward,
+        }
+    }
+}
+
+/// The end that leaves a part of a body.
+pub(crate) fn exit(around: Loop, way: Exit) -> End
+    ensures { result ≡ exit (loop_of around) (exit_of way) }
+{
+    match way {
+        Exit::Breaks => End::Jump(around.on_break),
+        Exit::Continues => End::Jump(around.on_continue),
+        Exit::Returns(reg) => End::Ret(reg),
     }
 }
 

@@ -1,12 +1,15 @@
 -- What is emitted part by part is emitted as a whole.
 use Rattle.std.proofs.Common.{◌≡◌, ℕ, suc, ◌+◌, ◌<◌, ◌≤◌, List, [], ◌∷◌, ◌++◌, append_assoc, length, length-append, map, Bool, true, false, refl, sym, ap, ◌∙◌, subst, arith, Option}
 use Rattle.std.specs.Prelude.{if◌then◌else◌}
-use Rattle.std.proofs.lemmas.List.{append-nil}
+use Rattle.std.proofs.lemmas.List.{append-nil, drop_all}
+use Rattle.std.proofs.Math.ListN.{get_or}
 use Rattle.ib_act.specs.declared.act.Act.{Act}
 use Rattle.tac_core.specs.declared.code.TacOp.{TacOp}
 use Rattle.tac_core.specs.declared.code.Block.{Block}
 use Rattle.tac_core.specs.declared.code.End.{End}
 use Rattle.tac_core.specs.declared.code.End.TheVariants.{Jump, Call}
+use Rattle.tac_code.specs.declared.code.Code.{Code as RCode}
+use Rattle.tac_code.specs.Views.{code_of}
 use Rattle.tac_lowered.specs.Code.{Code, nothing, does, both, calls, when, choose, repeat, until, leave, Exit, Test, settled, on, all_of, one_of}
 use Rattle.tac_lowered.specs.Items.{Item, Do, Close, Open, is_full, fresh, put, Loop, Next, onward, jump, closes, close, label_of, exit, branch, entry, is_jump, owned, own_items, goes, goes_test, items, test_items, ops_of, end_of, stmt_of, rest_of, blocks}
 use Rattle.tac_lowered.specs.Lowered.{registers}
@@ -16,7 +19,7 @@ use Rattle.tac_emit.specs.declared.emitter.Emitter.{Emitter}
 use Rattle.tac_emit.specs.Extents.{targets, targets_test, led, row_of}
 use Rattle.tac_emit.specs.Emitted.{dos, flat, items_in, open_in, full_end, Emits, Adds, EmitsFrom, EmitsCode, EmitsOwned, EmitsTest, Takes, TakesNext}
 use Rattle.tac_emit.proofs.Registers.{registers_behind}
-use Rattle.tac_emit.proofs.Surveying.{full_at, room_at}
+use Rattle.tac_emit.proofs.Surveying.{full_at, room_at, rest_code, next_in}
 
 -- ---- blocks and their items
 
@@ -294,3 +297,14 @@ emits_one a b c d got t u on_true on_false take st su =
     take_from (targets_test t o ++ targets_test u p) take (λ eg eo.
     let e2 : got.first ≡ p.label = ap (λ (g : Targets). g.first) eg in
     then_from (targets_test t o) (targets_test u p) o eo (test_at b c t on_true got.first on_true p.label o refl e2 eo st) (λ op. test_at c d u on_true on_false on_true on_false p refl refl (op ∙ (runs_test t on_true p.label o).by) su))
+
+-- ---- rows
+
+pub emits_step : (a s t : Emitter) (xs : List RCode) (i : ℕ) (x : RCode) (last whole : Code) (l : Loop) (n : Next) → i < length xs → x ≡ get_or xs i x → EmitsCode s t (code_of x) l onward
+    → ((b : Emitter) → EmitsCode s b (rest_code xs i last) l n → EmitsCode a b whole l n)
+    → (b : Emitter) → EmitsCode t b (rest_code xs (i + 1) last) l n → EmitsCode a b whole l n
+emits_step a s t xs i x last whole l n lt is g leads b h =
+    leads b (subst (λ ys. EmitsCode s b (row_of (map code_of ys) last) l n) (sym (next_in xs i x lt is)) (emits_both s t b (code_of x) (rest_code xs (i + 1) last) l n g h))
+
+pub emits_last : (s b : Emitter) (xs : List RCode) (i : ℕ) (last : Code) (l : Loop) (n : Next) → length xs ≤ i → EmitsCode s b last l n → EmitsCode s b (rest_code xs i last) l n
+emits_last s b xs i last l n le g = subst (λ ys. EmitsCode s b (row_of (map code_of ys) last) l n) (sym (drop_all i xs le)) g

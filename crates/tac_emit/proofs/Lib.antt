@@ -1,3 +1,4 @@
+pub mod Counting
 pub mod Emitting
 pub mod Registers
 pub mod Surveying

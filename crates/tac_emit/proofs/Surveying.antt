@@ -205,10 +205,10 @@ surveys_tests a b c d e at t u r st su set =
 
 -- ---- rows
 
-abbrev rest_code : List RCode → ℕ → Code → Code
+abbrev pub rest_code : List RCode → ℕ → Code → Code
 rest_code xs i last = row_of (map code_of (drop i xs)) last
 
-next_in : (xs : List RCode) (i : ℕ) (x : RCode) → i < length xs → x ≡ get_or xs i x → drop i xs ≡ x ∷ drop (i + 1) xs
+pub next_in : (xs : List RCode) (i : ℕ) (x : RCode) → i < length xs → x ≡ get_or xs i x → drop i xs ≡ x ∷ drop (i + 1) xs
 next_in xs i x lt is = subst (λ j. drop i xs ≡ x ∷ drop j xs) (sym (add-one i)) (drop-cons xs i x lt ∙ ap (λ y. y ∷ drop (suc i) xs) (sym is))
 
 pub surveys_step : (a s t : Survey) (xs : List RCode) (i : ℕ) (x : RCode) (last whole : Code) (closes : Bool) → i < length xs → x ≡ get_or xs i x → SurveysCode s t (code_of x) false

@@ -1,7 +1,6 @@
-ghost use Rattle.std.specs.Prelude.{◌≡◌};
+ghost use Rattle.std.specs.Prelude.{◌≡◌, if◌then◌else◌};
 ghost use Rattle.tac_code.specs.Views.{code_of, exit_of};
-ghost use Rattle.tac_emit.specs.declared.ways.Next.TheVariants as n;
-ghost use Rattle.tac_lowered.specs.Items.{branch, entry, exit, label_of};
+ghost use Rattle.tac_lowered.specs.Items.{branch, entry, exit, jump, label_of, onward};
 ghost use Rattle.tac_emit.specs.Emitted.{loop_of, next_of};
 
 use crate::jump::has_none;
@@ -32,6 +31,16 @@ impl Next {
             Next::Jump { label, .. } => label,
         }
     }
+
+    /// To a label where it is in a block of its own, and else on in the open one.
+    pub fn to_own(own: bool, stmt: u32, label: u32) -> Next
+        ensures { next_of result ≡ (if own then jump stmt label else onward) }
+    {
+        if own {
+            return Next::Jump { stmt, label };
+        }
+        Next::Onward
+    }
 }
 
 /// The labels of the loop around code, and where it goes behind its end.
@@ -50,44 +59,6 @@ impl Ways {
         },
         next: Next::Onward,
     };
-
-    /// The same loop, and on in the open block.
-    pub fn onward(self) -> Ways
-        ensures { result ≡ record { around = self.around; next = n.Onward } }
-    {
-        Ways {
-            around: self.around,
-            next: Next::Onward,
-        }
-    }
-
-    /// The same loop, and to a label.
-    pub fn to(self, stmt: u32, label: u32) -> Ways
-        ensures { result ≡ record { around = self.around; next = n.Jump stmt label } }
-    {
-        Ways {
-            around: self.around,
-            next: Next::Jump { stmt, label },
-        }
-    }
-
-    pub fn within(around: Loop, stmt: u32, label: u32) -> Ways
-        ensures { result ≡ record { around = around; next = n.Jump stmt label } }
-    {
-        Ways {
-            around,
-            next: Next::Jump { stmt, label },
-        }
-    }
-
-    pub fn onward_within(around: Loop) -> Ways
-        ensures { result ≡ record { around = around; next = n.Onward } }
-    {
-        Ways {
-            around,
-            next: Next::Onward,
-        }
-    }
 }
 
 /// The end that leaves a part of a body.

@@ -1,10 +1,10 @@
 -- The number of code's items, from a survey.
-use Rattle.std.proofs.Common.{◌≡◌, ℕ, suc, ◌+◌, List, [], ◌∷◌, ◌++◌, length, length-append, Bool, true, false, refl, sym, ap, ◌∙◌, arith}
+use Rattle.std.proofs.Common.{◌≡◌, ℕ, suc, ◌+◌, List, [], ◌∷◌, ◌++◌, length, Bool, true, false, refl, ap, arith}
 use Rattle.std.specs.Prelude.{if◌then◌else◌}
 use Rattle.ib_act.specs.declared.act.Act.{Act}
 use Rattle.tac_core.specs.declared.code.End.TheVariants.{Jump}
 use Rattle.tac_lowered.specs.Code.{Code, nothing, does, both, calls, when, choose, repeat, until, leave, breaks, continues, returns, Test, settled, on, all_of, one_of, inverse}
-use Rattle.tac_lowered.specs.Items.{Item, Do, Close, Open, is_full, fresh, counted, put, Loop, Next, onward, jump, branch, closes, close, is_jump, own_items, goes, items, test_items}
+use Rattle.tac_lowered.specs.Items.{Item, Do, Close, Open, is_full, fresh, counted, put, Loop, Next, onward, jump, branch, closes, close, own_items, goes, items, test_items}
 use Rattle.tac_lowered.proofs.Geometry.{run, runs}
 use Rattle.tac_emit.specs.Extents.{acts, acts_test}
 

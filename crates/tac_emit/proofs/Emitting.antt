@@ -11,13 +11,13 @@ use Rattle.tac_core.specs.declared.code.End.TheVariants.{Jump, Call}
 use Rattle.tac_code.specs.declared.code.Code.{Code as RCode}
 use Rattle.tac_code.specs.Views.{code_of}
 use Rattle.tac_lowered.specs.Code.{Code, nothing, does, both, calls, when, choose, repeat, until, leave, Exit, Test, settled, on, all_of, one_of}
-use Rattle.tac_lowered.specs.Items.{Item, Do, Close, Open, is_full, fresh, put, Loop, Next, onward, jump, closes, close, label_of, exit, branch, entry, is_jump, owned, own_items, goes, goes_test, items, test_items, ops_of, end_of, stmt_of, rest_of, blocks}
+use Rattle.tac_lowered.specs.Items.{Item, Do, Close, Open, is_full, fresh, put, Loop, Next, onward, jump, closes, close, label_of, exit, branch, entry, is_jump, owned, own_items, goes, goes_test, items, test_items}
 use Rattle.tac_lowered.specs.Lowered.{registers}
 use Rattle.tac_lowered.proofs.Geometry.{run, run_append, runs, runs_test, own_runs}
 use Rattle.tac_emit.specs.declared.survey.Targets.{Targets}
 use Rattle.tac_emit.specs.declared.emitter.Emitter.{Emitter}
-use Rattle.tac_emit.specs.Extents.{targets, targets_test, led, row_of}
-use Rattle.tac_emit.specs.Emitted.{dos, flat, items_in, open_in, full_end, Emits, Adds, EmitsFrom, EmitsCode, EmitsOwned, EmitsTest, Takes, TakesNext}
+use Rattle.tac_emit.specs.Extents.{targets, targets_test, row_of}
+use Rattle.tac_emit.specs.Emitted.{dos, flat, items_in, open_in, full_end, Emits, Adds, EmitsFrom, EmitsCode, EmitsOwned, EmitsTest, TakesNext}
 use Rattle.tac_emit.proofs.Registers.{registers_behind}
 use Rattle.tac_emit.proofs.Surveying.{full_at, room_at, rest_code, next_in}
 

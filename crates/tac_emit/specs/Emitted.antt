@@ -1,5 +1,5 @@
 -- The items that an emitter's blocks were made of, and how code adds to them.
-use Rattle.std.specs.Prelude.{◌≡◌, ℕ, suc, List, [], ◌∷◌, ◌++◌, length, Bool, true, false, if◌then◌else◌}
+use Rattle.std.specs.Prelude.{◌≡◌, ℕ, suc, List, [], ◌∷◌, ◌++◌, length, if◌then◌else◌}
 use Rattle.tac_core.specs.declared.code.TacOp.{TacOp}
 use Rattle.tac_core.specs.declared.code.Block.{Block}
 use Rattle.tac_core.specs.declared.code.End.TheVariants.{Jump}

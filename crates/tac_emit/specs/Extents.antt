@@ -1,5 +1,5 @@
 -- What code takes, told ahead of its items: its operations, and the labels that its constructs lead to.
-use Rattle.std.specs.Prelude.{◌≡◌, ℕ, suc, ◌+◌, List, [], ◌∷◌, ◌++◌, length, slice_set, Bool, true, false}
+use Rattle.std.specs.Prelude.{◌≡◌, ℕ, ◌+◌, List, [], ◌∷◌, ◌++◌, length, slice_set, Bool, true, false}
 use Rattle.tac_lowered.specs.Code.{Code, nothing, does, both, calls, when, choose, repeat, until, leave, Test, settled, on, all_of, one_of, inverse}
 use Rattle.tac_lowered.specs.Items.{Open, fresh, owned, goes, goes_test}
 use Rattle.tac_emit.specs.declared.survey.Targets.{Targets}

@@ -1,4 +1,4 @@
-use Rattle.std.proofs.Common.{◌≡◌, ◌+◌, ◌*◌, ◌≤◌, map, drop}
+use Rattle.std.proofs.Common.{◌+◌, ◌*◌, ◌≤◌, map, drop}
 use Rattle.tac_code.specs.Views.{code_of}
 use Rattle.tac_emit.specs.declared.emitter.Emitter.{Emitter}
 use Rattle.tac_emit.specs.Emitted.{loop_of, next_of, EmitsCode}

@@ -1,4 +1,4 @@
-use Rattle.std.proofs.Common.{◌<◌, ◌≤◌, length, arith, subst}
+use Rattle.std.proofs.Common.{arith, subst}
 use Rattle.tac_core.specs.declared.code.End.TheVariants.{Jump}
 use Rattle.std.proofs.Common.{◌∷◌, []}
 use Rattle.tac_lowered.specs.Items.{Close}

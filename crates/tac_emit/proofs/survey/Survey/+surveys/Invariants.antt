@@ -1,4 +1,4 @@
-use Rattle.std.proofs.Common.{◌≡◌, ◌+◌, ◌*◌, ◌≤◌, map, drop, false}
+use Rattle.std.proofs.Common.{◌+◌, ◌*◌, ◌≤◌, map, drop}
 use Rattle.tac_code.specs.Views.{code_of}
 use Rattle.tac_emit.specs.declared.survey.Survey.{Survey}
 use Rattle.tac_emit.specs.Extents.{row_of, SurveysCode}

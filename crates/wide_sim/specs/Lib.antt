@@ -10,6 +10,7 @@ pub mod Homes
 pub mod Next
 pub mod Planned
 pub mod Quiet
+pub mod Ready
 pub mod Simulation
 pub mod Site
 pub mod Store

@@ -7,6 +7,7 @@ ghost use Rattle.wide_core.specs.Valid.{is_within};
 ghost use Rattle.wide_sim.specs.Frames.{IsEntered};
 ghost use Rattle.wide_sim.specs.Store.{held, holds};
 
+use crate::ready::Ready;
 use crate::store::Store;
 use std::alloc::{AllocError, Global};
 use wide_core::{Loc, Tagged, WideFunc};
@@ -19,7 +20,7 @@ pub struct Frame {
     pub base: u32,
     pub at: usize,
     pub values: Store<Tagged>,
-    pub ready: Store<u64>,
+    pub ready: Ready,
 }
 
 /// A call that waits for one that it made, and the place of the result.
@@ -40,7 +41,7 @@ pub(crate) fn fresh(
     ensures { IfOk result (IsEntered regs callee.now func base []) }
 {
     let values = Store::filled(alloc, regs, callee.slots as usize, Tagged::Clear(0))?;
-    let ready = Store::filled(alloc, regs, callee.slots as usize, 0)?;
+    let ready = Ready::first(alloc, regs, callee.slots as usize)?;
     Ok(Frame {
         func,
         base,

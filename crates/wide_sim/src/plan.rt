@@ -66,6 +66,43 @@ fn byte_of(number: i64) -> u8
     number.rem_euclid(256) as u8
 }
 
+/// The tag rule where no source is marked.
+fn unmarked(op: &WideOp, own: Result<i64, FaultKind>) -> Done
+    ensures { result ≡ evaluated op.now.flagged op.now.number (Tagged.Clear (pos 0)) own }
+{
+    match own {
+        Ok(value) => Done::Value(value),
+        Err(kind) if op.flagged => Done::Marked {
+            number: op.number,
+            kind,
+        },
+        Err(kind) => Done::Report {
+            number: op.number,
+            kind,
+        },
+    }
+}
+
+/// The tag rule of an operation with one source, which gives its number.
+fn done_by_one(op: &WideOp, value: Tagged) -> Done
+    ensures { result ≡ evaluated op.now.flagged op.now.number (least_mark (value ∷ [])) (Ok (number_of value)) }
+{
+    match value {
+        Tagged::Clear(number) => Done::Value(number),
+        Tagged::Mark { .. } => evaluate(op, &[value], Ok(0)),
+    }
+}
+
+/// The tag rule of an operation with two sources, or fewer where one is a clear number.
+fn done_by_two(op: &WideOp, first: Tagged, second: Tagged, own: Result<i64, FaultKind>) -> Done
+    ensures { result ≡ evaluated op.now.flagged op.now.number (least_mark (first ∷ second ∷ [])) own }
+{
+    match (first, second) {
+        (Tagged::Clear(_), Tagged::Clear(_)) => unmarked(op, own),
+        _ => evaluate(op, &[first, second], own),
+    }
+}
+
 /// What the operation is to do, from the state before its word.
 pub(crate) fn plan_op<'a>(
     site: &Site,
@@ -129,7 +166,7 @@ fn plan_act(
     let second = value_if(values, act.second_source());
     let x = number_of(first);
     let own = own_by(act, base, memory, x, number_of(second));
-    match evaluate(op, &[first, second], own) {
+    match done_by_two(op, first, second, own) {
         Done::Value(value) => does_act(act, x, value),
         Done::Marked { number, kind } => marked(register(act.target()), number, kind),
         Done::Report { number, kind } => Planned::Report { number, kind },
@@ -150,7 +187,7 @@ fn plan_check(op: &WideOp, value: Tagged) -> Planned<'static>
     ensures args { (regs slots : ℕ) → has_args regs slots result ≡ true }
     ensures quiet { is_quiet_plan result ≡ true }
 {
-    match evaluate(op, &[value], Ok(number_of(value))) {
+    match done_by_one(op, value) {
         Done::Value(_) => Planned::Idle,
         Done::Marked { number, kind } => Planned::Report { number, kind },
         Done::Report { number, kind } => Planned::Report { number, kind },
@@ -162,7 +199,7 @@ fn plan_branch(op: &WideOp, value: Tagged, to: u32) -> Planned<'static>
     ensures args { (regs slots : ℕ) → has_args regs slots result ≡ true }
     ensures quiet { is_quiet_plan result ≡ true }
 {
-    match evaluate(op, &[value], Ok(number_of(value))) {
+    match done_by_one(op, value) {
         Done::Value(value) => {
             if is_zero(value) {
                 Planned::Idle
@@ -180,7 +217,7 @@ fn plan_branch_zero(op: &WideOp, value: Tagged, to: u32) -> Planned<'static>
     ensures args { (regs slots : ℕ) → has_args regs slots result ≡ true }
     ensures quiet { is_quiet_plan result ≡ true }
 {
-    match evaluate(op, &[value], Ok(number_of(value))) {
+    match done_by_one(op, value) {
         Done::Value(value) => {
             if is_zero(value) {
                 Planned::Jump { to }
@@ -198,7 +235,7 @@ fn plan_return(op: &WideOp, value: Tagged) -> Planned<'static>
     ensures args { (regs slots : ℕ) → has_args regs slots result ≡ true }
     ensures quiet { is_quiet_plan result ≡ true }
 {
-    match evaluate(op, &[value], Ok(number_of(value))) {
+    match done_by_one(op, value) {
         Done::Value(value) => Planned::Return(value),
         Done::Marked { number, kind } => Planned::Report { number, kind },
         Done::Report { number, kind } => Planned::Report { number, kind },

@@ -53,9 +53,7 @@ impl<T: Copy + Drop> Store<T> {
 fn repeated<T: Copy + Drop>(alloc: Global, count: usize, item: T) -> Result<Items<T>, AllocError>
     ensures { IfOk result (λ items. items ≡ replicate count item) }
 {
-    let mut items = Items::new(alloc);
-    for _made in 0..count {
-        items.push(item)?;
-    }
-    Ok(items)
+    let mut items = Vec::new(alloc);
+    items.resize(count, item)?;
+    Ok(Items::from_vec(items))
 }

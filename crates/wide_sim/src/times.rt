@@ -8,15 +8,19 @@ ghost use Rattle.wide_core.specs.Valid.{is_within};
 ghost use Rattle.wide_sim.specs.Fits.{op_fits};
 ghost use Rattle.wide_sim.specs.Store.{held, holds};
 
-use crate::store::Store;
+use crate::ready::Ready;
 use machine_desc::Machine;
 use wide_core::{Loc, WideAct, WideOp};
 
 /// Whether something that the word touches is ready later than now.
-pub(crate) fn any_late(ready: &Store<u64>, now: u64, ops: &[WideOp]) -> bool
+#[tactic(auto, using(crate::proofs::Late::none_late))]
+pub(crate) fn any_late(ready: &Ready, now: u64, ops: &[WideOp]) -> bool
     requires { list_all (op_fits (length ready.now.regs) (length ready.now.slots)) ops.now ≡ true }
     ensures { result ≡ any_late (held 0 ready.now) now ops.now }
 {
+    if ready.are_by(now) {
+        return false;
+    }
     for op in ops {
         if is_late(ready, now, op) {
             return true;
@@ -26,21 +30,21 @@ pub(crate) fn any_late(ready: &Store<u64>, now: u64, ops: &[WideOp]) -> bool
 }
 
 #[tactic(auto, using(crate::proofs::Places::sources_within, crate::proofs::Late::late_parts))]
-fn is_late(ready: &Store<u64>, now: u64, op: &WideOp) -> bool
+fn is_late(ready: &Ready, now: u64, op: &WideOp) -> bool
     requires { op_fits (length ready.now.regs) (length ready.now.slots) op.now ≡ true }
     ensures { result ≡ is_late (held 0 ready.now) now op.now }
 {
     target_late(ready, now, op.act.target()) || sources_late(ready, now, &op.act)
 }
 
-fn late(ready: &Store<u64>, now: u64, loc: Loc) -> bool
+fn late(ready: &Ready, now: u64, loc: Loc) -> bool
     requires { holds ready.now loc ≡ true }
     ensures { result ≡ nat_lt now (held 0 ready.now loc) }
 {
     now < ready.get(loc)
 }
 
-fn target_late(ready: &Store<u64>, now: u64, loc: Option<Loc>) -> bool
+fn target_late(ready: &Ready, now: u64, loc: Option<Loc>) -> bool
     requires { list_all (is_within (length ready.now.regs) (length ready.now.slots)) (target_if loc) ≡ true }
     ensures { result ≡ list_any (λ loc. nat_lt now (held 0 ready.now loc)) (target_if loc) }
 {
@@ -50,7 +54,7 @@ fn target_late(ready: &Store<u64>, now: u64, loc: Option<Loc>) -> bool
     }
 }
 
-fn reg_late(ready: &Store<u64>, now: u64, reg: Option<u32>) -> bool
+fn reg_late(ready: &Ready, now: u64, reg: Option<u32>) -> bool
     requires { list_all (is_within (length ready.now.regs) (length ready.now.slots)) (reg_if reg) ≡ true }
     ensures { result ≡ list_any (λ loc. nat_lt now (held 0 ready.now loc)) (reg_if reg) }
 {
@@ -60,7 +64,7 @@ fn reg_late(ready: &Store<u64>, now: u64, reg: Option<u32>) -> bool
     }
 }
 
-fn args_late(ready: &Store<u64>, now: u64, args: &[u32]) -> bool
+fn args_late(ready: &Ready, now: u64, args: &[u32]) -> bool
     requires { list_all (is_within (length ready.now.regs) (length ready.now.slots)) (map (λ r. Loc.Reg r) args.now) ≡ true }
     ensures { result ≡ list_any (λ loc. nat_lt now (held 0 ready.now loc)) (map (λ r. Loc.Reg r) args.now) }
 {
@@ -72,7 +76,7 @@ fn args_late(ready: &Store<u64>, now: u64, args: &[u32]) -> bool
     false
 }
 
-fn sources_late(ready: &Store<u64>, now: u64, act: &WideAct) -> bool
+fn sources_late(ready: &Ready, now: u64, act: &WideAct) -> bool
     requires { list_all (is_within (length ready.now.regs) (length ready.now.slots)) (sources act.now) ≡ true }
     ensures { result ≡ list_any (λ loc. nat_lt now (held 0 ready.now loc)) (sources act.now) }
 {
@@ -92,7 +96,7 @@ fn sources_late(ready: &Store<u64>, now: u64, act: &WideAct) -> bool
 }
 
 /// Sets the times at which what the operations write is ready.
-pub(crate) fn set_times<M: Machine>(ready: &mut Store<u64>, now: u64, ops: &[WideOp])
+pub(crate) fn set_times<M: Machine>(ready: &mut Ready, now: u64, ops: &[WideOp])
     requires fit { list_all (op_fits (length ready.old.regs) (length ready.old.slots)) ops.now ≡ true }
     requires time { now < 2 ^ 63 }
     ensures times { held 0 ready.new ≡ times_after M.latency_of now ops.now (held 0 ready.old) }
@@ -105,7 +109,7 @@ pub(crate) fn set_times<M: Machine>(ready: &mut Store<u64>, now: u64, ops: &[Wid
 }
 
 #[tactic(auto, using(crate::proofs::Places::target_within, crate::proofs::Places::held_put))]
-fn set_time<M: Machine>(ready: &mut Store<u64>, now: u64, op: &WideOp)
+fn set_time<M: Machine>(ready: &mut Ready, now: u64, op: &WideOp)
     requires fits { op_fits (length ready.old.regs) (length ready.old.slots) op.now ≡ true }
     requires time { now < 2 ^ 63 }
     ensures times { held 0 ready.new ≡ put_if (target op.now.act) (now + M.latency_of (class_of op.now.act)) (held 0 ready.old) }

@@ -14,7 +14,7 @@ use Rattle.wide_sim.specs.declared.planned.Planned.{Planned}
 use Rattle.wide_sim.specs.declared.planned.Planned.TheVariants.{Idle, Write, Save, Take, PutByte, PutNumber, Jump, Call, Return, Report}
 use Rattle.wide_sim.specs.Effects.{asks, asking, text_of, text, hear, left_behind, heard, left_after, Asked, AskedOne, Hears, HearsOne, PrintsSome, number_of_byte}
 use Rattle.wide_core.proofs.Both.{both, both_first}
-use Rattle.std.specs.List.{list_all}
+use Rattle.std.specs.List.{list_all, list_any}
 use Rattle.wide_sim.specs.Fits.{planned_fits}
 use Rattle.wide_sim.specs.Quiet.{is_quiet_plan}
 use Rattle.wide_sim.proofs.Places.{all_at, all_join, all_left, all_right}
@@ -212,6 +212,38 @@ module _ (plan old : List Planned) (i : ℕ) (d : Planned) (before middle : Worl
       })
 
 -- ---- what asks for nothing
+
+-- effects of which none asks stay, take nothing and print nothing
+record Rests (fs : List Planned) (input : List ℕ) : Type 0 where
+  pub given : heard input fs ≡ fs
+  pub rest : left_after fs input ≡ input
+  pub prints : text fs ≡ []
+
+rests_more : (f : Planned) (fs : List Planned) (input : List ℕ) → hear input f ≡ f → left_behind f input ≡ input → text_of f ≡ [] → Rests fs input → Rests (f ∷ fs) input
+rests_more f fs input same kept quiet r = record {
+  given = ap (λ g. g ∷ heard (left_behind f input) fs) same ∙ ap (λ l. f ∷ heard l fs) kept ∙ ap (λ gs. f ∷ gs) r.given;
+  rest = ap (λ l. left_after fs l) kept ∙ r.rest;
+  prints = ap (λ t. t ++ text fs) quiet ∙ r.prints;
+}
+
+rests : (fs : List Planned) (input : List ℕ) → list_any asks fs ≡ false → Rests fs input
+rests [] input h = record { given = refl; rest = refl; prints = refl }
+rests (Take to ∷ fs) input h = cc
+rests (PutByte byte ∷ fs) input h = cc
+rests (PutNumber z ∷ fs) input h = cc
+rests (Idle ∷ fs) input h = rests_more Idle fs input refl refl refl (rests fs input h)
+rests (Write to value ∷ fs) input h = rests_more (Write to value) fs input refl refl refl (rests fs input h)
+rests (Save width address value ∷ fs) input h = rests_more (Save width address value) fs input refl refl refl (rests fs input h)
+rests (Jump to ∷ fs) input h = rests_more (Jump to) fs input refl refl refl (rests fs input h)
+rests (Call result func next args ∷ fs) input h = rests_more (Call result func next args) fs input refl refl refl (rests fs input h)
+rests (Return z ∷ fs) input h = rests_more (Return z) fs input refl refl refl (rests fs input h)
+rests (Report number kind ∷ fs) input h = rests_more (Report number kind) fs input refl refl refl (rests fs input h)
+
+pub none_asked : (fs : List Planned) (w : World) → list_any asks fs ≡ false → Asked fs fs w w
+none_asked fs w h = record {
+  over = over_none (Hears fs fs) (λ left. let r = rests fs left h in record { given = r.given; rest = r.rest; prints = sym r.prints }) w;
+  fits = λ regs slots fit. fit;
+}
 
 pub quiet_at : (plan old : List Planned) (i : ℕ) (d : Planned) → i < length plan → length plan ≡ length old → drop i plan ≡ drop i old → list_all is_quiet_plan old ≡ true → is_quiet_plan (get_or plan i d) ≡ true
 quiet_at plan old i d lt len rest quiet =

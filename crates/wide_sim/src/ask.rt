@@ -1,5 +1,5 @@
 ghost use Rattle.std.specs.Prelude.{◌≡◌, ◌≤◌, true, length, IfOk, IsOk, OnOk, OnErr, IsErrOf};
-ghost use Rattle.std.specs.List.{list_all};
+ghost use Rattle.std.specs.List.{list_all, list_any};
 ghost use Rattle.ib_base.specs.Cause.{HasCause};
 ghost use Rattle.ib_run.specs.OverHost.{OverHost};
 ghost use Rattle.wide_sim.specs.Effects.{Asked, AskedOne, PrintsSome, asking, asks, number_of_byte, text, text_of};
@@ -11,6 +11,7 @@ use itoa::Buffer;
 use wide_core::{Loc, Tagged};
 
 /// Prints what the effects print, and puts the bytes that they take in their place.
+#[tactic(auto, using(crate::proofs::Asks::none_asked))]
 pub(crate) fn ask<H: Host>(host: &mut H, plan: &mut [Planned]) -> Result<(), HostErr>
     requires { asking plan.old ≤ 1 }
     ensures ok { OnOk result (Asked plan.old plan.new (H.world host.old) (H.world host.new)) }
@@ -21,6 +22,9 @@ pub(crate) fn ask<H: Host>(host: &mut H, plan: &mut [Planned]) -> Result<(), Hos
     ensures still_sure { H.sure host.old → H.sure host.new }
     ensures never { H.sure host.old → IsErrOf result HostErr.Failed → ⊥ }
 {
+    if !any_asks(plan) {
+        return Ok(());
+    }
     for i in 0..plan.len() {
         match ask_one(host, plan[i]) {
             Ok(effect) => plan[i] = effect,
@@ -28,6 +32,28 @@ pub(crate) fn ask<H: Host>(host: &mut H, plan: &mut [Planned]) -> Result<(), Hos
         }
     }
     Ok(())
+}
+
+fn any_asks(plan: &[Planned]) -> bool
+    ensures { result ≡ list_any asks plan.now }
+{
+    for effect in plan {
+        if asks(effect) {
+            return true;
+        }
+    }
+    false
+}
+
+fn asks(effect: &Planned) -> bool
+    ensures { result ≡ asks effect.now }
+{
+    match effect {
+        Planned::Take { .. } => true,
+        Planned::PutByte(_) => true,
+        Planned::PutNumber(_) => true,
+        _ => false,
+    }
 }
 
 fn ask_one<'a, H: Host>(host: &mut H, effect: Planned<'a>) -> Result<Planned<'a>, HostErr>
